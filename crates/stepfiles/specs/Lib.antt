@@ -1,0 +1,5 @@
+pub mod Layout
+pub mod Coding
+pub mod Opening
+pub mod Proper
+pub mod Views
