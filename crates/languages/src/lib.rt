@@ -2,7 +2,8 @@
 //! Hardly any of it is code; the definitions are in specs/, the theorems in specs/ with their proofs in proofs/.
 ghost use mathlib.Core.Path.{_≡_};
 ghost use Rattle.languages.specs.Marks.{number};
-ghost use Rattle.languages.specs.Theorems.{MarksSayWhatIsReached};
+ghost use Rattle.languages.specs.Tables.{Table, Closed};
+ghost use Rattle.languages.specs.Theorems.{WorkedOut, MarksSayWhatIsReached};
 
 /// What a row of a table says about the lists that lead to it.
 #[derive(Clone, Copy, PartialEq, Eq, Debug)]
@@ -31,7 +32,14 @@ impl Mark {
     }
 }
 
-/// Names the theorem that marks worked out by passes are the marks that reachability gives. It does nothing.
+/// Marks worked out by passes are the marks that reachability gives. It does nothing: it is there for its contract.
 pub fn marks_say_what_is_reached()
+    ensures { λ _. ⌜ ((t : Table) → Closed t → WorkedOut t) ⌝ }
+{
+    proved();
+}
+
+/// The theorem as proofs/ has it.
+fn proved()
     ensures { λ _. ⌜ MarksSayWhatIsReached ⌝ }
 {}
