@@ -1,5 +1,7 @@
 //! Opens the step files that standard input describes, good and damaged ones, and prints what comes of each.
 //! `tests/damaged.py` makes the cases, and says what must come of them.
+#![tactic(auto)]
+
 mod cases;
 mod outcomes;
 mod tables;

@@ -1,4 +1,6 @@
 //! Deriving: the node of what may follow a letter.
+#![tactic(auto)]
+
 mod answer;
 mod phase;
 mod walk;

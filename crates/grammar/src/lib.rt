@@ -1,4 +1,6 @@
 //! Rule texts: their tokens, and the grammar that says which rule a text writes. The reader that follows it is elsewhere.
+#![tactic(auto)]
+
 mod lexer;
 mod theorem;
 mod token;

@@ -1,6 +1,8 @@
 //! The theory that the other crates rest on: tables over classes, what their rows reach, the marks that say it, and
 //! rules with their languages.
 //! Hardly any of it is code; the definitions are in specs/, the theorems in specs/ with their proofs in proofs/.
+#![tactic(auto)]
+
 pub mod rules;
 
 ghost use Rattle.std.specs.Prelude.{◌≡◌};

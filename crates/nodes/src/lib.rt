@@ -1,4 +1,6 @@
 //! Nodes: rules as records in a pool of the caller's.
+#![tactic(auto)]
+
 mod entering;
 mod form;
 mod merging;

@@ -1,4 +1,6 @@
 //! Numbering things in the order in which they are first met.
+#![tactic(auto)]
+
 mod book;
 mod same;
 

@@ -1,4 +1,6 @@
 //! Passes over a text, in the order of the text: one that checks it, and one that enters its rule.
+#![tactic(auto)]
+
 mod binary;
 mod cycle;
 mod entering;

@@ -1,5 +1,7 @@
 //! Calls what works on pools, over the odd pools that standard input gives, and prints what comes of each call.
 //! `tests/pools.py` makes the cases, and says how they are written and what must come of them.
+#![tactic(auto)]
+
 mod cases;
 mod outcomes;
 

@@ -1,4 +1,6 @@
 //! Reading a rule text: its atoms, and its rule as nodes in a pool of the caller's.
+#![tactic(auto)]
+
 mod asking;
 mod source;
 mod worked;

@@ -1,4 +1,6 @@
 //! The questions that the library asks of what it is given, and the refusal that a no makes.
+#![tactic(auto)]
+
 ghost use Rattle.std.specs.Prelude.{◌≡◌};
 ghost use Rattle.refusals.specs.Questions.{numbered, layered, refusing};
 

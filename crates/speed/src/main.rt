@@ -1,5 +1,7 @@
 //! Times the opening of a step file. Words: FILE COUNT ROUNDS. Standard output has what is the same in each run, and
 //! standard error the time of an opening in the best round.
+#![tactic(auto)]
+
 use anyhow::Context;
 use refusals::Refusal;
 use std::time::{Duration, Instant};

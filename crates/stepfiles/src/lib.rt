@@ -1,4 +1,6 @@
 //! Step files: their layout, their marks, and a view that only a file which passed every check can have.
+#![tactic(auto)]
+
 mod file;
 mod header;
 mod layout;

@@ -1,4 +1,6 @@
 //! What is known of a text before it is read: its atoms. And going over its tokens.
+#![tactic(auto)]
+
 mod atoms;
 mod entry;
 mod looking;

@@ -1,6 +1,8 @@
 //! Reads the rule texts that standard input gives in hexadecimal, each into memory of the size given with it, and prints
 //! what comes of it: the answer, and all that the memory then holds. `tests/reading.py` makes the cases, and says how
 //! they are written and what must come of them.
+#![tactic(auto)]
+
 mod cases;
 mod outcomes;
 

@@ -1,4 +1,6 @@
 //! The command line of the rule and step file library: `wafulexi help` says what it does.
+#![tactic(auto)]
+
 mod commands;
 mod escapes;
 mod excerpts;

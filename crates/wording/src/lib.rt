@@ -1,4 +1,6 @@
 //! What a refusal says to a technician, on one line.
+#![tactic(auto)]
+
 ghost use Rattle.std.specs.Prelude.{◌≡◌};
 ghost use Rattle.wording.specs.Wording.{worded, Sentence};
 

@@ -5,7 +5,7 @@ use Rattle.grammar.proofs.lexer.start.Goals as goal
 
 pub loop-place-preserved : goal.loop-place-preserved
 loop-place-preserved c =
-    c.loop-place.invariant ∙ skip_more blank c.args.text.now c.loop-place.place c.loop-place-test.true (sym c.is-blank.ensures ∙ c.if-is-blank.true)
+    c.loop-place.invariant ∙ skip_more blank c.args.text.now c.loop-place.place c.loop-place-test.true (sym c.is_blank.ensures ∙ c.if-is_blank.true)
 
 pub returns-else-is-blank : goal.returns-else-is-blank
 returns-else-is-blank c =

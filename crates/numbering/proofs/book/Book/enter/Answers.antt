@@ -20,10 +20,10 @@ returns-then-is-full g c =
     }
 
 pub put-requires : goal.put-requires
-put-requires g c = false-leb _ _ c.if-is-full.ensures
+put-requires g c = false-leb _ _ c.if-is_full.ensures
 
 pub returns : goal.returns
 returns g c =
     let b = c.args.self.now in
-    let done = numbered_next g.T.Same.equal b.items.now b.count c.args.thing c.place-of-found.result c.place-of-found.ensures (sym c.if-is-some.ensures) (false-leb _ _ c.if-is-full.ensures) in
+    let done = numbered_next g.T.Same.equal b.items.now b.count c.args.thing c.place_of-found.result c.place_of-found.ensures (sym c.if-is_some.ensures) (false-leb _ _ c.if-is_full.ensures) in
     record { whole = rw (c.put.ensures.written, c.put.ensures.counted) done; lent = c.put.ensures.lent }
