@@ -3,19 +3,19 @@ use Rattle.std.proofs.Common.{sym, refl}
 use Rattle.numbering.proofs.Numbering.{numbered_found, numbered_full, numbered_next}
 use Rattle.numbering.proofs.book.Book.enter.Goals as goal
 
-pub returns-then-is-some : goal.returns-then-is-some
-returns-then-is-some g c =
+pub returns-then-is_some : goal.returns-then-is_some
+returns-then-is_some g c =
     let b = c.args.self.now in
     record {
-      whole = numbered_found g.T.Same.equal b.items.now b.count c.args.thing c.place-of-found.result c.place-of-found.ensures (sym c.if-is-some.ensures);
+      whole = numbered_found g.T.Same.equal b.items.now b.count c.args.thing c.place_of-found.result c.place_of-found.ensures (sym c.if-is_some.ensures);
       lent = refl;
     }
 
-pub returns-then-is-full : goal.returns-then-is-full
-returns-then-is-full g c =
+pub returns-then-is_full : goal.returns-then-is_full
+returns-then-is_full g c =
     let b = c.args.self.now in
     record {
-      whole = numbered_full g.T.Same.equal b.items.now b.count c.args.thing c.place-of-found.result c.place-of-found.ensures (sym c.if-is-some.ensures) (true-leb _ _ c.if-is-full.ensures);
+      whole = numbered_full g.T.Same.equal b.items.now b.count c.args.thing c.place_of-found.result c.place_of-found.ensures (sym c.if-is_some.ensures) (true-leb _ _ c.if-is_full.ensures);
       lent = refl;
     }
 
