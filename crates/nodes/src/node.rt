@@ -1,7 +1,7 @@
 //! The record that a pool holds for each node.
 ghost use Rattle.std.specs.Prelude.{◌≡◌};
 ghost use Rattle.nodes.specs.Records.{kind_number, same_node};
-ghost use Rattle.nodes.specs.Sameness.{same-exact};
+ghost use Rattle.nodes.specs.Sameness.{same_exact};
 
 use numbering::Same;
 
@@ -48,7 +48,7 @@ pub struct Node {
 impl Same for Node {
     ghost equal = { same_node };
 
-    ghost exact = { same-exact };
+    ghost exact = { same_exact };
 
     fn same(self, other: Node) -> bool {
         self.kind.number() == other.kind.number()

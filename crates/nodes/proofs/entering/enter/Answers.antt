@@ -9,8 +9,8 @@ pub returns : goal.returns
 returns c =
     let before = pool_of c.args.pool.now in
     record {
-      whole = c.enter-form.ensures.whole;
+      whole = c.enter_form.ensures.whole;
       means = λ sound parts.
-          subst (Comes before (means before.used c.args.form)) (sym c.enter-form.ensures.whole) (comes_entered before sound c.args.form parts);
-      lent = c.enter-form.ensures.lent;
+          subst (Comes before (means before.used c.args.form)) (sym c.enter_form.ensures.whole) (comes_entered before sound c.args.form parts);
+      lent = c.enter_form.ensures.lent;
     }

@@ -4,29 +4,29 @@ use Rattle.nodes.specs.Pools.{pool_of}
 use Rattle.nodes.proofs.Members.{picked_last, picked_more, ahead_falls}
 use Rattle.nodes.proofs.merging.+merge_ahead.Goals as goal
 
-pub returns-then-is-last : goal.returns-then-is-last
-returns-then-is-last t c =
+pub returns-then-is_last : goal.returns-then-is_last
+returns-then-is_last t c =
     let h = pool_of c.args.pool.now in
     record {
-      whole = picked_last c.args.join h.used c.args.left c.args.right c.pick-next.result h c.pick-next.ensures c.if-is-last.ensures;
+      whole = picked_last c.args.join h.used c.args.left c.args.right c.pick-next.result h c.pick-next.ensures c.if-is_last.ensures;
       lent = refl;
     }
 
-pub merge-ahead-requires : goal.merge-ahead-requires
-merge-ahead-requires t c =
+pub merge_ahead-requires : goal.merge_ahead-requires
+merge_ahead-requires t c =
     let h = pool_of c.args.pool.now in
-    (omega (arith, c.decreases, ahead_falls c.args.join h.used c.args.left c.args.right c.pick-next.result c.pick-next.ensures c.if-is-last.ensures), tt)
+    (omega (arith, c.decreases, ahead_falls c.args.join h.used c.args.left c.args.right c.pick-next.result c.pick-next.ensures c.if-is_last.ensures), tt)
 
-pub returns-in-err-rest : goal.returns-in-err-rest
-returns-in-err-rest t c =
-    let p = err_from_is_err_and c.from-residual.result c.from-residual.ensures.1 in
+pub returns-in_err-rest : goal.returns-in_err-rest
+returns-in_err-rest t c =
+    let p = err_from_is_err_and c.from_residual.result c.from_residual.ensures.1 in
     let h = pool_of c.args.pool.now in
     record {
       whole =
           rw (p.1, p.2)
-          (picked_more c.args.join h.used c.args.left c.args.right c.pick-next.result h c.pick-next.ensures c.if-is-last.ensures
-          (Err c.in-err-rest.field-0.0, pool_of c.merge-ahead.new.pool) c.in-err-rest.ensures.whole);
-      lent = c.merge-ahead.ensures.lent;
+          (picked_more c.args.join h.used c.args.left c.args.right c.pick-next.result h c.pick-next.ensures c.if-is_last.ensures
+          (Err c.in_err-rest.field-0.0, pool_of c.merge_ahead.new.pool) c.in_err-rest.ensures.whole);
+      lent = c.merge_ahead.ensures.lent;
     }
 
 pub returns : goal.returns
@@ -35,8 +35,8 @@ returns t c =
     record {
       whole =
           c.keep.ensures.whole
-          ∙ rw c.join-of.ensures
-          (picked_more c.args.join h.used c.args.left c.args.right c.pick-next.result h c.pick-next.ensures c.if-is-last.ensures
-          (Ok c.in-ok-rest.rest, pool_of c.merge-ahead.new.pool) c.in-ok-rest.ensures.whole);
-      lent = c.keep.ensures.lent ∙ c.merge-ahead.ensures.lent;
+          ∙ rw c.join_of.ensures
+          (picked_more c.args.join h.used c.args.left c.args.right c.pick-next.result h c.pick-next.ensures c.if-is_last.ensures
+          (Ok c.in_ok-rest.rest, pool_of c.merge_ahead.new.pool) c.in_ok-rest.ensures.whole);
+      lent = c.keep.ensures.lent ∙ c.merge_ahead.ensures.lent;
     }

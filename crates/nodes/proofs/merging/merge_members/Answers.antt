@@ -3,4 +3,4 @@ use Rattle.nodes.proofs.merging.merge_members.Goals as goal
 
 pub returns : goal.returns
 unfolding merged
-returns c = record { whole = c.merge-ahead.ensures.whole; lent = c.merge-ahead.ensures.lent }
+returns c = record { whole = c.merge_ahead.ensures.whole; lent = c.merge_ahead.ensures.lent }

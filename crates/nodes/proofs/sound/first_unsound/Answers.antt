@@ -5,6 +5,6 @@ use Rattle.nodes.proofs.sound.first_unsound.Goals as goal
 
 pub returns : goal.returns
 returns c = record {
-  whole = c.find-unsound.ensures;
-  means = subst (Told c.args.nodes.now) (sym c.find-unsound.ensures) (tells_first_unsound c.args.nodes.now);
+  whole = c.find_unsound.ensures;
+  means = subst (Told c.args.nodes.now) (sym c.find_unsound.ensures) (tells_first_unsound c.args.nodes.now);
 }

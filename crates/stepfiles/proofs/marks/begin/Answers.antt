@@ -14,8 +14,8 @@ loop-row-preserved c =
     let t = table_in c.args.bytes.now in
     let row = c.loop-row.row in
     let value : c.number.result ≡ number (first (t.accepts row)) = elim c.if-accepts.branch [
-      | then-accepts w ↦ let yes : t.accepts row ≡ true = rw (← c.row-place.ensures.value) (eq-eqb _ 1 w.if-accepts.true) in rw (c.number.ensures, w.mark-is, yes)
-      | else-accepts w ↦ let no : t.accepts row ≡ false = rw (← c.row-place.ensures.value) (ne_eqb _ 1 w.if-accepts.false) in rw (c.number.ensures, w.mark-is, no)
+      | then-accepts w ↦ let yes : t.accepts row ≡ true = rw (← c.row_place.ensures.value) (eq-eqb _ 1 w.if-accepts.true) in rw (c.number.ensures, w.mark-is, yes)
+      | else-accepts w ↦ let no : t.accepts row ≡ false = rw (← c.row_place.ensures.value) (ne_eqb _ 1 w.if-accepts.false) in rw (c.number.ensures, w.mark-is, no)
     ] in
     rw value (fill_by_more (λ k. number (first (t.accepts k))) c.loop-row.marks row 0 (omega arith) c.loop-row.invariant)
 

@@ -19,7 +19,7 @@ loop-class-preserved c =
     let ms = c.args.marks.now in
     let row = c.args.row in
     let class = c.loop-class.class in
-    let target = c.word-at.result in
+    let target = c.word_at.result in
     let is : t.next row class ≡ target = cc in
     let below = c.requires.closed row class (omega arith) (omega arith) in
     let seen = number_at ms target c.requires.coded (omega arith) in
@@ -28,8 +28,8 @@ loop-class-preserved c =
     cc
 
 -- a full mark stays as it is over the classes that are left
-pub returns-then-is-full : goal.returns-then-is-full
-returns-then-is-full c =
+pub returns-then-is_full : goal.returns-then-is_full
+returns-then-is_full c =
     let t = table_in c.args.bytes.now in
     let ms = marks_in c.args.marks.now in
     let row = c.args.row in
@@ -37,5 +37,5 @@ returns-then-is-full c =
     let mark = gathered t ms row class in
     let left = c.args.layout.classes - class in
     let all : class + left ≡ c.args.layout.classes = omega arith in
-    let full = number_full mark (c.if-is-full.ensures ∙ ap (λ m. eqb (bit_and m 6) 6) c.loop-class.invariant) in
+    let full = number_full mark (c.if-is_full.ensures ∙ ap (λ m. eqb (bit_and m 6) 6) c.loop-class.invariant) in
     c.loop-class.invariant ∙ ap number (sym (gathered_full_more t ms row class left full.0 full.1) ∙ ap (gathered t ms row) all)

@@ -17,8 +17,8 @@ loop-pass-init c =
 pub loop-pass-preserved : goal.loop-pass-preserved
 loop-pass-preserved c =
     let t = table_in c.args.bytes.now in
-    let left = c.args.layout.rows - (c.loop-pass.-pass + 1) in
-    let one_more : left + 1 ≡ c.args.layout.rows - c.loop-pass.-pass = omega arith in
+    let left = c.args.layout.rows - (c.loop-pass._pass + 1) in
+    let one_more : left + 1 ≡ c.args.layout.rows - c.loop-pass._pass = omega arith in
     let ms = marks_in c.loop-pass.marks in (
       c.pass.ensures.coded,
       ap (passes t left) c.pass.ensures.passed ∙ sym (passes_more t left ms) ∙ ap (λ n. passes t n ms) one_more ∙ c.loop-pass.invariant.1,
@@ -32,7 +32,7 @@ returns-then-not-pass c =
     let ms = marks_in c.loop-pass.marks in
     let same = c.pass.ensures.still c.if-not-pass.true in
     let still = sym c.pass.ensures.passed ∙ ap marks_in same in
-    let done = sym (passes_still t ms still (c.args.layout.rows - c.loop-pass.-pass)) ∙ c.loop-pass.invariant.1 in
+    let done = sym (passes_still t ms still (c.args.layout.rows - c.loop-pass._pass)) ∙ c.loop-pass.invariant.1 in
     same ∙ c.loop-pass.invariant.0 ∙ ap (map number) done
 
 pub returns : goal.returns
@@ -40,5 +40,5 @@ unfolding worked_in
 returns c =
     let t = table_in c.args.bytes.now in
     let ms = marks_in c.loop-pass.marks in
-    let none : c.args.layout.rows - c.loop-pass.-pass ≡ 0 = omega arith in
+    let none : c.args.layout.rows - c.loop-pass._pass ≡ 0 = omega arith in
     c.loop-pass.invariant.0 ∙ ap (map number) (sym (passes_none t ms) ∙ ap (λ n. passes t n ms) (sym none) ∙ c.loop-pass.invariant.1)

@@ -8,4 +8,4 @@ use Rattle.stepfiles.proofs.marks.work_out.Given as goal
 abbrev pub invariant-loop-pass : goal.invariant-loop-pass
 invariant-loop-pass l =
     Coded l.marks
-    × (passes (table_in l.bytes) (l.rows - l.-pass) (marks_in l.marks) ≡ worked (table_in l.bytes))
+    × (passes (table_in l.bytes) (l.rows - l._pass) (marks_in l.marks) ≡ worked (table_in l.bytes))

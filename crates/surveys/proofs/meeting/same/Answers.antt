@@ -5,5 +5,5 @@ use Rattle.std.proofs.lemmas.Bool.Decides.{Decides-eqb}
 
 pub returns : goal.returns
 returns c =
-    let h = slice_eq-Decides Decides-eqb _ _ _ c.eq.ensures in
+    let h = slice_eq-Decides Decides-eqb c.args.one.now c.args.other.now _ c.eq.ensures in
     search (rules, bytes_eq-Decides)

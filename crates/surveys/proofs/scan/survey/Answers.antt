@@ -15,6 +15,6 @@ loop-lexeme-preserved c =
 
 pub returns : goal.returns
 returns c =
-    let last = found_all c.args.text.now (listed c.loop-lexeme.atoms) c.loop-lexeme.at c.loop-lexeme.invariant c.in-default.field-0 c.in-default.ensures.seen in
+    let last = found_all c.args.text.now (listed c.loop-lexeme.atoms) c.loop-lexeme.at c.loop-lexeme.invariant c.in_default.field-0 c.in_default.ensures.seen in
     let is = c.reader-2.ensures in
     record { text_is = is.text; atoms_are = is.atoms ∙ sym last.all; horizon-is = is.horizon ∙ sym last.horizon; pass_is = is.pass }

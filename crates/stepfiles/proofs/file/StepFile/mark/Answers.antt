@@ -6,15 +6,15 @@ use Rattle.stepfiles.proofs.Headers.{laid}
 use Rattle.stepfiles.proofs.Promises.{mark_there}
 use Rattle.stepfiles.proofs.file.StepFile.mark.Goals as goal
 
-pub layout-of-layout-requires : goal.layout-of-layout-requires
-layout-of-layout-requires c = omega (arith, (headed c.args.self.now.bytes.now c.args.self.now.checked).long)
+pub layout_of-layout-requires : goal.layout_of-layout-requires
+layout_of-layout-requires c = omega (arith, (headed c.args.self.now.bytes.now c.args.self.now.checked).long)
 
-pub row-place-requires : goal.row-place-requires
-row-place-requires c =
+pub row_place-requires : goal.row_place-requires
+row_place-requires c =
     let b = c.args.self.now.bytes.now in
-    let is = c.layout-of-layout.ensures in
+    let is = c.layout_of-layout.ensures in
     record {
-      laid = laid b c.layout-of-layout.result (headed b c.args.self.now.checked) is.value is.few;
+      laid = laid b c.layout_of-layout.result (headed b c.args.self.now.checked) is.value is.few;
       within = omega arith;
     }
 
