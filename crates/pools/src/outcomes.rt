@@ -1,6 +1,6 @@
 //! What comes of a call, as a line of text.
 use crate::cases::{Call, Case};
-use deriving::derive;
+use derivatives::derive;
 use nodes::{Node, enter, first_unsound};
 use numbering::{Book, Same};
 use refusals::Refusal;

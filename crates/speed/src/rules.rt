@@ -1,7 +1,7 @@
 //! Reading a rule, and going through its rows: row 0 is the root, each row is derived by the empty answer set and by that
 //! of each atom alone, and a node that is no row yet is the next row.
 use crate::Turns;
-use deriving::derive;
+use derivatives::derive;
 use nodes::{MOST_NODES, Node, NodeKind, Pool};
 use numbering::Book;
 use reader::{Entry, Reading, read};

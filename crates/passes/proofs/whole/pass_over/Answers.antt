@@ -4,7 +4,7 @@ use Rattle.nodes.specs.Pools.{pool_of}
 use Rattle.passes.proofs.Passages.{passed_bad}
 use Rattle.passes.proofs.whole.pass_over.Goals as goal
 
-pub returns-in-err-first : goal.returns-in-err-first
-returns-in-err-first c =
-    let p = err_from_is_err_and c.from-residual.result c.from-residual.ensures.1 in
-    rw (p.1, p.2) (record { whole = passed_bad c.args.reader.now (pool_of c.args.pool.now) _ c.in-err-first.ensures.told; lent = refl })
+pub returns-in_err-first : goal.returns-in_err-first
+returns-in_err-first c =
+    let p = err_from_is_err_and c.from_residual.result c.from_residual.ensures.1 in
+    rw (p.1, p.2) (record { whole = passed_bad c.args.reader.now (pool_of c.args.pool.now) _ c.in_err-first.ensures.told; lent = refl })

@@ -11,7 +11,7 @@ use Rattle.nodes.specs.Reading.{part, at, form_by, form_at, nullable_at}
 use Rattle.nodes.specs.Entering.{Held, Out, bind_by, bind, entered}
 use Rattle.nodes.specs.Deriving.{or_right, derived_by, derived}
 use Rattle.nodes.proofs.Members.{part_below}
-use Rattle.deriving.specs.Phases.{first_part, leaf_of, second_part, begun_as, finished_as, begun, finished, phased}
+use Rattle.derivatives.specs.Phases.{first_part, leaf_of, second_part, begun_as, finished_as, begun, finished, phased}
 
 none≢some : {X : Type 0} {x : X} → None ≡ Some x → ⊥
 none≢some e = let z : ◌≡◌ {A = ℕ} 0 1 = cc in omega arith

@@ -1,6 +1,6 @@
 use Rattle.std.proofs.Common.{◌≡◌, ◌/◌, ◌^◌, ◌<◌, lt_of_lt_of_le, arith, pow_mono}
 use native.Mathlib.Nat.{div-eq_of_lt}
-use Rattle.deriving.proofs.answer.has_atom.Goals as goal
+use Rattle.derivatives.proofs.answer.has_atom.Goals as goal
 
 pub returns-then-atom-ge-ATOMS : goal.returns-then-atom-ge-ATOMS
 returns-then-atom-ge-ATOMS c =

@@ -2,7 +2,7 @@
 ghost use Rattle.std.specs.Prelude.{◌≡◌};
 ghost use Rattle.nodes.specs.Entering.{Out};
 ghost use Rattle.nodes.specs.Pools.{pool_of};
-ghost use Rattle.deriving.specs.Phases.{first_part, leaf_of, second_part, begun_as, begun, finished_as};
+ghost use Rattle.derivatives.specs.Phases.{first_part, leaf_of, second_part, begun_as, begun, finished_as};
 
 use crate::answer::has_atom;
 use nodes::{EMPTY, Form, NONE, Pool, enter, nullable_at};
