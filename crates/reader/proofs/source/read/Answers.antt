@@ -9,6 +9,6 @@ returns c =
     let pool = c.args.pool.now in
     let atoms = c.args.atoms.now in
     record {
-      whole = c.read-text.ensures;
-      means = subst (ReadingMeans text pool atoms) (sym c.read-text.ensures) (text_means text pool atoms);
+      whole = c.read_text.ensures;
+      means = subst (ReadingMeans text pool atoms) (sym c.read_text.ensures) (text_means text pool atoms);
     }
