@@ -1,9 +1,12 @@
-//! Times the opening of a step file. Words: FILE COUNT ROUNDS. Standard output has what is the same in each run, and
-//! standard error the time of an opening in the best round.
+//! Times the opening of a step file, or the reading and deriving of a rule. Words: [derive] FILE COUNT ROUNDS, with
+//! `derive` for a rule. Standard output has what is the same in each run, and standard error the time in the best round.
 #![tactic(auto)]
+
+mod rules;
 
 use anyhow::Context;
 use refusals::Refusal;
+use std::env::Args;
 use std::time::{Duration, Instant};
 use std::{env, fs, io};
 use stepfiles::{MOST_ROWS, StepFile, open};
@@ -12,7 +15,7 @@ use stepfiles::{MOST_ROWS, StepFile, open};
 const TEXT: usize = 11;
 
 #[derive(Drop)]
-struct Task {
+pub struct Task {
     file: String,
     count: u32,
     rounds: u32,
@@ -23,6 +26,15 @@ fn main(rt: HostRuntime) -> anyhow::Result<()> {
 }
 
 fn run(rt: &HostRuntime) -> anyhow::Result<()> {
+    let mut words = env::args(rt)?;
+    let _ = words.next();
+    match words.next() {
+        Some(word) if word.as_str() == "derive" => rules::run(rt, words),
+        _ => open_file(rt),
+    }
+}
+
+fn open_file(rt: &HostRuntime) -> anyhow::Result<()> {
     let task = asked(rt)?;
     let mut bytes = fs::read(rt, task.file.as_str())?;
     let mut scratch = [0u8; MOST_ROWS];
@@ -40,6 +52,11 @@ fn run(rt: &HostRuntime) -> anyhow::Result<()> {
 fn asked(rt: &HostRuntime) -> anyhow::Result<Task> {
     let mut words = env::args(rt)?;
     let _ = words.next();
+    task_in(words)
+}
+
+/// The task that the words FILE COUNT ROUNDS set.
+fn task_in(mut words: Args) -> anyhow::Result<Task> {
     let file = words.next().context("no FILE")?;
     let count = words.next().context("no COUNT")?.parse::<u32>()?;
     let rounds = words.next().context("no ROUNDS")?.parse::<u32>()?;

@@ -1,13 +1,14 @@
 //! Reading a rule, and going through its rows: row 0 is the root, each row is derived by the empty answer set and by that
 //! of each atom alone, and a node that is no row yet is the next row.
-use crate::Turns;
+use crate::{Task, task_in};
 use derivatives::derive;
 use nodes::{MOST_NODES, Node, NodeKind, Pool};
 use numbering::Book;
 use reader::{Entry, Reading, read};
 use refusals::Refusal;
-use std::io;
+use std::env::Args;
 use std::time::{Duration, Instant};
+use std::{fs, io};
 
 const MOST_ROWS: usize = 1024;
 
@@ -28,7 +29,10 @@ struct Journey {
     full: bool,
 }
 
-pub fn run(rt: &HostRuntime, text: &[u8], turns: Turns) -> anyhow::Result<()> {
+pub fn run(rt: &HostRuntime, words: Args) -> anyhow::Result<()> {
+    let task = task_in(words)?;
+    let bytes = fs::read(rt, task.file.as_str())?;
+    let text = bytes.as_slice();
     let mut nodes = [UNUSED; MOST_NODES];
     let mut atoms = [Entry {
         place: 0,
@@ -42,7 +46,7 @@ pub fn run(rt: &HostRuntime, text: &[u8], turns: Turns) -> anyhow::Result<()> {
             return Ok(());
         }
     }
-    time(rt, text, &mut nodes, &mut atoms, turns)?;
+    time(rt, text, &mut nodes, &mut atoms, &task)?;
     Ok(())
 }
 
@@ -66,21 +70,21 @@ fn time(
     text: &[u8],
     nodes: &mut [Node],
     atoms: &mut [Entry],
-    turns: Turns,
+    task: &Task,
 ) -> io::Result<()> {
     let mut reading_best = Duration::MAX;
     let mut walking_best = Duration::MAX;
     let mut derivatives = 0u64;
-    let rounds = turns.rounds;
+    let rounds = task.rounds;
     for _ in 0..rounds {
         let start = Instant::now(rt)?;
-        let reading = read_often(text, nodes, atoms, turns.count);
+        let reading = read_often(text, nodes, atoms, task.count);
         reading_best = reading_best.min(start.elapsed(rt)?);
         let start = Instant::now(rt)?;
-        derivatives = walk_often(nodes, reading, turns.count);
+        derivatives = walk_often(nodes, reading, task.count);
         walking_best = walking_best.min(start.elapsed(rt)?);
     }
-    let reading = each(reading_best, u64::from(turns.count));
+    let reading = each(reading_best, u64::from(task.count));
     let derivative = each(walking_best, derivatives);
     eprintln!(rt; "{reading} ns a reading, {derivative} ns a derivative")
 }

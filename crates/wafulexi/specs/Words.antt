@@ -9,8 +9,12 @@
 --   inspecting ws s  to inspect the source s, if no word is left
 --   inspect ws       what the words after `inspect` ask for; with none, standard input is inspected
 --   parsed ws        the command that ws ask for
+--   alone ws s       the source s, if no word is left
+--   sourced ws       the source that a command's own words ws name; with none, standard input
+--   for_nodes s      s, as what was asked for
+--   nodes_asked ws   the source of the rule whose nodes ws ask for; nothing where they ask for something else
 -- Assumes nothing.
-use Rattle.std.specs.Prelude.{ℕ, Bool, cond, ◌||◌, List, [], ◌∷◌, Ok, Err, string_bytes, codes, Result, String, ◌==◌, slice_index}
+use Rattle.std.specs.Prelude.{ℕ, Bool, cond, ◌||◌, List, [], ◌∷◌, Some, None, Option, Ok, Err, string_bytes, codes, Result, String, ◌==◌, slice_index}
 use Prim.Native.String.{String as Text}
 use Rattle.std.specs.Str.{bytes_eq}
 use Rattle.std.specs.declared.alloc.Global.{Global}
@@ -54,3 +58,19 @@ inspect (w ∷ ws) = inspecting ws (named w)
 abbrev pub parsed : List Word → Result Command Misuse
 parsed [] = Err NoCommand
 parsed (w ∷ ws) = cond (is w "help" || (is w "--help" || is w "-h")) (ended ws Help) (cond (is w "inspect") (inspect ws) (Err (unknown w)))
+
+abbrev pub alone : List Word → Result Source Misuse → Result Source Misuse
+alone ws (Ok s) = ended ws s
+alone ws (Err m) = Err m
+
+abbrev pub sourced : List Word → Result Source Misuse
+sourced [] = Ok Input
+sourced (w ∷ ws) = alone ws (named w)
+
+abbrev pub for_nodes : Result Source Misuse → Result (Option Source) Misuse
+for_nodes (Ok s) = Ok (Some s)
+for_nodes (Err m) = Err m
+
+abbrev pub nodes_asked : List Word → Result (Option Source) Misuse
+nodes_asked [] = Ok None
+nodes_asked (w ∷ ws) = cond (is w "nodes") (for_nodes (sourced ws)) (Ok None)

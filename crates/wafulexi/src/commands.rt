@@ -1,6 +1,6 @@
 //! The commands, each in a module of its own.
 mod inspect;
-mod nodes;
+pub mod nodes;
 
 use crate::failures::Failure;
 use crate::usage::USAGE;

@@ -11,31 +11,39 @@ mod words;
 
 use failures::Failure;
 use std::env;
+use std::env::Args;
+use std::process::ExitCode;
 
-/// The program failed, and standard error says why.
-#[derive(Drop)]
-pub struct Failed;
-
-fn main(rt: HostRuntime) -> Result<(), Failed> {
+fn main(rt: HostRuntime) -> ExitCode {
     match run(&rt) {
-        Ok(()) => Ok(()),
+        Ok(()) => ExitCode::SUCCESS,
         Err(failure) => {
             // where standard error cannot be written either, nobody is left to tell
             let _ = rt.eprintln(failure);
-            Err(Failed)
+            ExitCode::FAILURE
         }
     }
 }
 
 fn run(rt: &HostRuntime) -> Result<(), Failure> {
-    let mut words = match env::args(rt) {
-        Ok(words) => words,
-        Err(error) => return Err(Failure::Words(error)),
-    };
-    // the first word is the program's own name
-    let _ = words.next();
-    match words::parse(words) {
+    match words::parse_nodes(own_words(rt)?) {
+        Ok(Some(source)) => return commands::nodes::nodes(rt, source),
+        Ok(None) => {}
+        Err(misuse) => return Err(Failure::Misuse(misuse)),
+    }
+    match words::parse(own_words(rt)?) {
         Ok(command) => commands::run(rt, command),
         Err(misuse) => Err(Failure::Misuse(misuse)),
+    }
+}
+
+/// The words of the command line, without the first, which is the program's own name.
+fn own_words(rt: &HostRuntime) -> Result<Args, Failure> {
+    match env::args(rt) {
+        Ok(mut words) => {
+            let _ = words.next();
+            Ok(words)
+        }
+        Err(error) => Err(Failure::Words(error)),
     }
 }

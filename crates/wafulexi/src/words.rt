@@ -2,7 +2,7 @@
 ghost use Rattle.std.specs.Prelude.{◌≡◌};
 ghost use Rattle.std.specs.Vec.Iter.{into_iter_items};
 ghost use Rattle.wafulexi.specs.declared.words.Command.TheVariants.{Help};
-ghost use Rattle.wafulexi.specs.Words.{is_option, ended, named, unknown, inspect, parsed};
+ghost use Rattle.wafulexi.specs.Words.{is_option, ended, named, unknown, inspect, parsed, sourced, nodes_asked};
 
 use std::env::Args;
 
@@ -59,6 +59,31 @@ fn inspect(mut words: Args) -> Result<Command, Misuse>
     };
     end(words)?;
     Ok(Command::Inspect(source))
+}
+
+/// The source of the rule whose nodes the words ask for; nothing where they ask for something else.
+pub fn parse_nodes(mut words: Args) -> Result<Option<Source>, Misuse>
+    ensures { result ≡ nodes_asked (into_iter_items words) }
+{
+    let Some(name) = words.next() else {
+        return Ok(None);
+    };
+    match name.as_str() {
+        "nodes" => Ok(Some(source_in(words)?)),
+        _ => Ok(None),
+    }
+}
+
+/// The source that a command's own words name: one word at most, and with none standard input.
+fn source_in(mut words: Args) -> Result<Source, Misuse>
+    ensures { result ≡ sourced (into_iter_items words) }
+{
+    let source = match words.next() {
+        Some(word) => named(word)?,
+        None => Source::Input,
+    };
+    end(words)?;
+    Ok(source)
 }
 
 /// The source that a word names. A lone dash is standard input, and any other word with a dash in front an option.

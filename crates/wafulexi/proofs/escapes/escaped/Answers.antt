@@ -7,7 +7,7 @@ pub loop-byte-init : goal.loop-byte-init
 loop-byte-init c = c.new-text.ensures.bytes ∙ sym escaped_nil
 
 pub loop-byte-preserved : goal.loop-byte-preserved
-loop-byte-preserved c = one_more _ _ (string_bytes c.loop-byte.text) _ c.loop-byte-test.true c.loop-byte.invariant c.in-ok-push-byte.ensures
+loop-byte-preserved c = one_more _ _ (string_bytes c.loop-byte.text) _ c.loop-byte-test.true c.loop-byte.invariant c.in_ok-push_byte.ensures
 
 pub returns : goal.returns
 returns c = c.loop-byte.invariant ∙ ap escaped (take_all c.loop-byte.byte-index c.args.bytes.now c.loop-byte-test.false)

@@ -9,10 +9,10 @@ pub returns : goal.returns
 returns c =
     let text = c.args.text.now in
     let p = c.args.place in
-    let b = c.in-ok-before.before in
-    let front = c.split-at.ensures.front ∙ ap (λ k. take k text) c.min.ensures ∙ take_min p text in
-    let back = c.split-at.ensures.back ∙ ap (λ k. drop k text) c.min.ensures ∙ drop_min p text in
-    let before : string_bytes b ≡ escaped (last_line (take p text)) = c.in-ok-before.ensures ∙ ap escaped (c.last-line.ensures ∙ ap last_line front) in
-    let after : string_bytes c.in-ok-after.after ≡ escaped (first_line (drop p text)) = c.in-ok-after.ensures ∙ ap escaped (c.first-line.ensures ∙ ap first_line back) in
-    let indent : string_bytes c.in-ok-indent.indent ≡ replicate (length (string_bytes b)) 32 = c.in-ok-indent.ensures ∙ ap (λ n. replicate n 32) (c.len.ensures ∙ b.bytes.ok.0) in
+    let b = c.in_ok-before.before in
+    let front = c.split_at.ensures.front ∙ ap (λ k. take k text) c.min.ensures ∙ take_min p text in
+    let back = c.split_at.ensures.back ∙ ap (λ k. drop k text) c.min.ensures ∙ drop_min p text in
+    let before : string_bytes b ≡ escaped (last_line (take p text)) = c.in_ok-before.ensures ∙ ap escaped (c.last_line.ensures ∙ ap last_line front) in
+    let after : string_bytes c.in_ok-after.after ≡ escaped (first_line (drop p text)) = c.in_ok-after.ensures ∙ ap escaped (c.first_line.ensures ∙ ap first_line back) in
+    let indent : string_bytes c.in_ok-indent.indent ≡ replicate (length (string_bytes b)) 32 = c.in_ok-indent.ensures ∙ ap (λ n. replicate n 32) (c.len.ensures ∙ b.bytes.ok.0) in
     IfOk-weaker c.format.result _ _ (λ s made. made ∙ pointed-is _ _ _ _ _ before after indent) c.format.ensures.ok

@@ -5,5 +5,5 @@ use Rattle.wafulexi.proofs.words.is_option.Goals as goal
 
 pub returns : goal.returns
 returns c =
-    let decides = starts_char 45 c.args.word.now c.starts-with.result c.starts-with.ensures.cases (lit< tt) (lit< tt) in
+    let decides = starts_char 45 c.args.word.now c.starts_with.result c.starts_with.ensures.cases (lit< tt) (lit< tt) in
     grind (arith, nat_tests)
