@@ -1,7 +1,7 @@
 -- What a written form begins with, and what cannot go on behind it.
 --   starts_as X t   t can begin a form of the level X
---   Begun X us     the tokens us begin with such a token
---   Stops X ts     the first token of ts goes on no form of the level X or tighter
+--   Begun X us      the tokens us begin with such a token
+--   Stops X ts      the first token of ts goes on no form of the level X or tighter
 -- Assumes nothing.
 use Rattle.std.proofs.Common.{◌≡◌, ℕ, ◌≤◌, Bool, true, false, not, ◌&&◌, eqb, List, [], ◌∷◌, ◌++◌, length, sym, refl, ap, ◌∙◌, arith}
 use Rattle.std.proofs.lemmas.Bool.{and_parts}

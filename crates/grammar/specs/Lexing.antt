@@ -1,15 +1,15 @@
 -- How a text is cut into tokens, each by the bytes from its place on.
---   blank b            b may stand between tokens: a blank or a line feed
---   bare b             the token that the byte b is, if it is one of the nine signs
---   Piece              a token (none at the end), its place, and the place behind it
+--   blank b             b may stand between tokens: a blank or a line feed
+--   bare b              the token that the byte b is, if it is one of the nine signs
+--   Piece               a token (none at the end), its place, and the place behind it
 --   start_at text at    the first place from at on where no blank stands
 --   closing_at text at  the first place from at on where a `]` stands; the text's length if there is none
 --   lexed_at text at    the first token from the place at on, or why none can be told. begun, piece_at, bare_at and
---                      bracket_to are its steps: at a place, by the byte there, for a sign, for a bracket up to its `]`
---   onward f x         the tokens that begin with what x tells, where f tells those from a place on
+--                       bracket_to are its steps: at a place, by the byte there, for a sign, for a bracket up to its `]`
+--   onward f x          the tokens that begin with what x tells, where f tells those from a place on
 --   lex_from k text at  the tokens from the place at on, at most k of them
 --   lexed_from text at  the tokens from the place at on
---   lexed text         the tokens of a text
+--   lexed text          the tokens of a text
 -- Assumes nothing.
 use Rattle.std.specs.Prelude.{ℕ, zero, suc, ◌+◌, ◌-◌, Bool, cond, not, ◌||◌, List, length, take, drop, Some, None, Ok, Err, Option, Result, ◌==◌, nat_lt, slice_index}
 use Rattle.std.specs.List.{prefix_len}

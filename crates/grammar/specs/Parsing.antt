@@ -1,16 +1,16 @@
 -- Reading a rule off its tokens, in the order of the text. Each token is looked at as soon as the one before it is
 -- taken, so that what is wrong with a token is told before anything of a later one.
---   Read            a rule and what is left of the tokens, or a refusal
---   then, past      go on after a rule is read; look at what comes next
---   ahead r ts      the rule r is read, once the token behind it is looked at
---   unexpected ts   the first token of ts cannot stand there
---   entered n ts f  open one level more, if one of n is left, at the first token of ts
---   joins X ts      the first token of ts goes on a form of the level X
+--   Read              a rule and what is left of the tokens, or a refusal
+--   then, past        go on after a rule is read; look at what comes next
+--   ahead r ts        the rule r is read, once the token behind it is looked at
+--   unexpected ts     the first token of ts cannot stand there
+--   entered n ts f    open one level more, if one of n is left, at the first token of ts
+--   joins X ts        the first token of ts goes on a form of the level X
 --   read k names n X ts    read a form of the level X where n levels are left; k is above the depth of calls
 --   more k names n X r ts  go on from r, a form of the level X, as far as it goes
 --   read_by, more_by  one step of each, given how to take the steps below it. grown_by, not_by, closed and base_by are their
---                   parts: with an operand more, at a `!`, at the `)` of a rule in parentheses, by the first token
---   whole, wholly   the rule, if nothing is left behind it
+--                     parts: with an operand more, at a `!`, at the `)` of a rule in parentheses, by the first token
+--   whole, wholly     the rule, if nothing is left behind it
 --   parsed k names ts, parsed_text text  the rule of some tokens, and of a text
 -- Assumes nothing.
 use Rattle.std.specs.Prelude.{ℕ, zero, suc, ◌*◌, Bool, true, false, List, length, Ok, Err, Result}

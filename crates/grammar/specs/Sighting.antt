@@ -1,7 +1,7 @@
 -- What the code's tokens stand for.
 --   token_of t    the token that t is; none for the end of the text
 --   piece_of l    a lexeme as a piece of the text
---   sighted r    what looking for a token answers
+--   sighted r     what looking for a token answers
 -- Assumes nothing.
 use Rattle.std.specs.Prelude.{Some, None, Ok, Err, Option, Result}
 use Rattle.refusals.specs.declared.Refusal.{Refusal}

@@ -1,16 +1,16 @@
 -- The tokens of a rule text, and a text as the tokens that it is made of.
---   Token           a token: one of nine signs, or a bracket with the bytes between its ends
---   Spot            a token and its place, that of its first byte
---   Lexed           tokens up to the end of the text, or up to where no token can be told; `end` has the text's length
+--   Token            a token: one of nine signs, or a bracket with the bytes between its ends
+--   Spot             a token and its place, that of its first byte
+--   Lexed            tokens up to the end of the text, or up to where no token can be told; `end` has the text's length
 --   before spots ts the tokens of ts behind those of spots
 --   tokens_in spots  the tokens without their places
---   sign t          the byte that t begins with
---   begins t        t can begin an operand
---   head, rest      the first token, if there is one, and what comes behind it
---   place ts        the place of the first token; at the end the text's length
+--   sign t           the byte that t begins with
+--   begins t         t can begin an operand
+--   head, rest       the first token, if there is one, and what comes behind it
+--   place ts         the place of the first token; at the end the text's length
 --   sign_of, begins_some  sign and begins of a first token; 0 and no where there is none
---   leads b ts      the first token of ts is the one with the sign b
---   opens ts        the first token of ts can begin an operand
+--   leads b ts       the first token of ts is the one with the sign b
+--   opens ts         the first token of ts can begin an operand
 -- Assumes nothing.
 use Rattle.std.specs.Prelude.{ℕ, Bool, true, false, List, [], ◌∷◌, map, Some, None, Option, ◌==◌}
 use Rattle.refusals.specs.declared.Refusal.{Refusal}

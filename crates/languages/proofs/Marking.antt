@@ -1,7 +1,7 @@
 -- What a mark says, as tests, and what joining does to them.
 --   accepted m   its row accepts
---   sees_yes m    its row reaches one that accepts
---   sees_no m     its row reaches one that does not
+--   sees_yes m   its row reaches one that accepts
+--   sees_no m    its row reaches one that does not
 --   full m       its row reaches both, so that no join changes the mark
 --   differ a b   a and b are not the same
 -- Assumes nothing.

@@ -1,7 +1,7 @@
 -- Merging members keeps the language: the members of both nodes, in any order and each once, join to the two nodes joined.
 --   rule_join j      or, or and, of two rules
---   unit j          the rule that changes nothing where it is joined
---   all j p xs      the rules that the nodes xs of p mean, joined
+--   unit j           the rule that changes nothing where it is joined
+--   all j p xs       the rules that the nodes xs of p mean, joined
 -- Assumes nothing.
 use Rattle.std.proofs.Common.{◌≡◌, ℕ, zero, suc, ◌<◌, eqb, ltb, ◌⊎◌, List, [], ◌∷◌, length, Some, None, Option, sym, refl, ap, ◌∙◌, inl, inr, arith}
 use Rattle.std.specs.List.{AllByRecursion as All}

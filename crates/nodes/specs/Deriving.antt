@@ -1,7 +1,7 @@
 -- The derivative of a node by an answer set: what is answered, and the pool afterwards.
 --   derived_by rec s n p f h  one step, for the node n that the nodes p read as f; rec derives a smaller node
---   derived k s n h          the derivative, going down at most k nodes
---   derivation s n h         the derivative of node n: no part of it is deeper than its number
+--   derived k s n h           the derivative, going down at most k nodes
+--   derivation s n h          the derivative of node n: no part of it is deeper than its number
 -- Assumes nothing.
 use Rattle.std.specs.Prelude.{ℕ, zero, suc, Bool, true, false, cond, List, Ok}
 use Rattle.languages.specs.Rules.{has}

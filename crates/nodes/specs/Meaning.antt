@@ -1,5 +1,5 @@
 -- What a node means: a rule.
---   rule_of known f    the rule of a form over rules that are known by their numbers
+--   rule_of known f   the rule of a form over rules that are known by their numbers
 --   meanings known p  the known rules, and then those of the nodes p, each over the ones before it
 --   meaning p n       the rule that node n of p means
 --   means p f         the rule of a form over the nodes p

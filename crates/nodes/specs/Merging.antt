@@ -5,7 +5,7 @@
 --   first_of l s r t    the next member of the merged list and what is left, where s and t are the splits of l and r
 --   picked_of j p l r   the same for what may be empty
 --   is_last n           nothing is left behind that member
---   ahead o            how much o may still go for
+--   ahead o             how much o may still go for
 -- Assumes nothing.
 use Rattle.std.specs.Prelude.{ℕ, suc, ◌+◌, Bool, cond, not, ◌&&◌, List, [], is_some, Some, None, Option, ◌==◌, nat_lt}
 use Rattle.nodes.specs.declared.node.Node.{Node}

@@ -1,6 +1,6 @@
 -- How a node is read: totally, so that every number in every pool is read as some form whose parts are smaller.
---   at p n          the record of node n in the nodes p; node 0, and whatever is not there, is none
---   part n m        the part m of node n: itself if it is smaller than n, else node 0
+--   at p n           the record of node n in the nodes p; node 0, and whatever is not there, is none
+--   part n m         the part m of node n: itself if it is smaller than n, else node 0
 --   form_by k n l r  the form of node n with the kind k and the fields l and r
 --   form_at p n      the form that node n is read as
 --   nullable_at p n  the flag of node n

@@ -1,13 +1,13 @@
 -- Which pools are sound, and the first node that is not. The records are looked at as they stand.
 --   flag_at p n      the flag of the record n
 --   sound_by p n k l r e   a later node n with the kind k, the fields l and r and the flag e is sound
---   proper p n      node n is there and sound: the one of the nodes 0 to 3, or a sound later one
+--   proper p n       node n is there and sound: the one of the nodes 0 to 3, or a sound later one
 --   first_failing f n k    the first of the k numbers from n on at which f is false
 --   first_unsound p  the first unsound node of p
---   Below n f       f is a form of a later node n: its parts are smaller than n, its atom is below 32
---   SoundAt p n     node n is there, and is the one of the nodes 0 to 3, or later the record of a form below it
---   Sound p         the nodes 0 to 3 stand first, and each later record is that of a form below it
---   Told p o        what o says of p: nothing unsound, or the first unsound node
+--   Below n f        f is a form of a later node n: its parts are smaller than n, its atom is below 32
+--   SoundAt p n      node n is there, and is the one of the nodes 0 to 3, or later the record of a form below it
+--   Sound p          the nodes 0 to 3 stand first, and each later record is that of a form below it
+--   Told p o         what o says of p: nothing unsound, or the first unsound node
 -- Assumes nothing.
 use Rattle.std.specs.Prelude.{◌≡◌, ℕ, zero, suc, ◌+◌, ◌<◌, ◌≤◌, Bool, false, cond, not, ◌&&◌, ◌||◌, List, ◌++◌, length, get_or, Some, None, Option, ◌==◌, nat_lt, slice_index_or}
 use Rattle.nodes.specs.declared.node.Node.{Node}

@@ -1,6 +1,6 @@
 -- Entering a whole rule: the left part, the right part, then the node.
 --   entered_tree r h   the rule r, entered into the pool h
---   Few r             every atom of r is below 32
+--   Few r              every atom of r is below 32
 -- Assumes nothing.
 use Rattle.std.specs.Prelude.{◌<◌}
 use Rattle.languages.specs.Rules.{Rule, none, empty, any, atom, sequence, or, and, star, not}

@@ -1,8 +1,8 @@
 -- Finding a thing in a list by a test of sameness.
 --   first_from eq k xs x   the place of the first of xs that eq says is x, where the first of xs stands at place k
 --   first_equal eq xs x    the same where it stands at place 0
---   Absent x xs           none of xs is x
---   First x xs i          x stands at place i of xs, and not before
+--   Absent x xs            none of xs is x
+--   First x xs i           x stands at place i of xs, and not before
 -- Assumes nothing.
 use Rattle.std.specs.Prelude.{◌≡◌, ℕ, suc, Bool, cond, List, [], ◌∷◌, ◌++◌, length, Some, None, Option}
 use Rattle.std.specs.List.{AllByRecursion as All}

@@ -1,6 +1,6 @@
 //! Things that can be told apart.
 ghost use Rattle.std.specs.Prelude.{◌≡◌, Bool, Decides, nat_eq};
-ghost use Rattle.std.proofs.Common.{rules};
+ghost use Rattle.std.proofs.lemmas.Bool.Decides.{Decides-eqb};
 
 /// What can be numbered: its test of sameness says yes exactly for equal things.
 pub trait Same: Copy {
@@ -15,7 +15,7 @@ pub trait Same: Copy {
 impl Same for u16 {
     ghost equal = { nat_eq };
 
-    ghost exact = { Prim.search rules };
+    ghost exact = { Decides-eqb };
 
     fn same(self, other: u16) -> bool {
         self == other
@@ -25,7 +25,7 @@ impl Same for u16 {
 impl Same for u32 {
     ghost equal = { nat_eq };
 
-    ghost exact = { Prim.search rules };
+    ghost exact = { Decides-eqb };
 
     fn same(self, other: u32) -> bool {
         self == other

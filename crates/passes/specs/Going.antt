@@ -1,9 +1,9 @@
 -- What each reader of the cycle promises.
---   rank X             how deep a form of the level X may call before a token is taken
---   size s l X         a bound of the depth of calls of reading a form of the level X from the lexeme l on
+--   rank X              how deep a form of the level X may call before a token is taken
+--   size s l X          a bound of the depth of calls of reading a form of the level X from the lexeme l on
 --   size_on s l         the same for going on where l comes next
 --   Goes s n X l h r g      reading a form of the level X from l on, with n levels left, answers r and turns the pool h
---                      into g; it takes a token at least
+--                       into g; it takes a token at least
 --   Grown s n X x h r g     the same for going on from the part x
 -- Assumes nothing.
 use Rattle.std.specs.Prelude.{◌≡◌, ℕ, ◌+◌, ◌-◌, ◌*◌, ◌<◌, ◌≤◌, length, Ok, Err, Result}

@@ -2,19 +2,19 @@
 -- of rules.
 --   Answer           a node and the tokens behind its text, or a refusal; and the pool afterwards
 --   go, with, over   go on after a part is read; after a form is entered; once the next token is looked at
---   put_in pass f h   enter the form f; where a text is only checked nothing is written, and the node is 0
---   level_of b        the level of a form of two operands
+--   put_in pass f h  enter the form f; where a text is only checked nothing is written, and the node is 0
+--   level_of b       the level of a form of two operands
 --   tighter b        the level of its operands
 --   joining b l m    the form over two nodes
---   joins_with b t    the token t, if there is one, says that another operand follows
+--   joins_with b t   the token t, if there is one, says that another operand follows
 --   onset b s l      the tokens from the next operand on, where l is the lexeme behind the last
---   leaf_in names t   the form that the token t alone is, if it is one
+--   leaf_in names t  the form that the token t alone is, if it is one
 --   inside n ts h f  open one level more, if one of n is left, at the first token of ts
 --   read_into k pass names n X ts h     read a form of the level X into the pool h, as the grammar's read does
 --   grow_into k pass names n X l ts h   go on from the node l, as the grammar's more does
---   names_of s        how a reader numbers a bracket
+--   names_of s       how a reader numbers a bracket
 --   answered s r     what reading answers, in these words
---   passed_into s h   a pass over the whole text
+--   passed_into s h  a pass over the whole text
 --   settled r        whether it came to its end
 -- Assumes nothing.
 use Rattle.std.specs.Prelude.{ℕ, zero, suc, ◌*◌, ◌≤◌, Bool, true, false, List, length, Some, None, Ok, Err, Option, Result, ◌==◌}

@@ -1,12 +1,12 @@
 -- What reading a text answers, and what it leaves.
 --   room_asked t p a      the questions about the length t of a text, the size p of a pool and the places a for atoms
---   passing f            whether all was answered with yes
---   Outcome              an answer, the pool's records afterwards, and the places for atoms afterwards
+--   passing f             whether all was answered with yes
+--   Outcome               an answer, the pool's records afterwards, and the places for atoms afterwards
 --   first_held items      the pool that reading begins with: the first four nodes afresh
---   slice h              a pool's records, as a slice has them
---   filled new es        places for atoms with the entries new
+--   slice h               a pool's records, as a slice has them
+--   filled new es         places for atoms with the entries new
 --   read_text text items es   reading a text into a slice of records and places for atoms. after_asking, after_parsing and
---                        after_entering are its steps, each given what the step before found
+--                         after_entering are its steps, each given what the step before found
 -- Assumes nothing.
 use Rattle.std.specs.Prelude.{ℕ, Bool, ◌&&◌, List, [], ◌∷◌, ◌++◌, length, drop, Some, None, Ok, Err, Option, Result, nat_le}
 use Rattle.languages.specs.Rules.{Rule}

@@ -1,6 +1,6 @@
 -- The questions, each with its number and its layer: the one definition of both.
---   numbered q   the number that a technician sees
---   layered q    the part of the work that asks q
+--   numbered q    the number that a technician sees
+--   layered q     the part of the work that asks q
 --   refusing q p a no to q at the place p
 --   first_no qs   the refusal of the first question of a list whose answer is no
 -- Assumes nothing.

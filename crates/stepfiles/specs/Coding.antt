@@ -1,7 +1,7 @@
 -- Marks as bytes.
---   decoded n    the mark whose number is n; lost where there is none
+--   decoded n     the mark whose number is n; lost where there is none
 --   marks_in xs   the marks whose numbers are xs
---   Coded xs     each of xs is the number of a mark
+--   Coded xs      each of xs is the number of a mark
 -- Assumes nothing.
 use Rattle.std.specs.Prelude.{◌≡◌, ℕ, cond, List, map, ◌==◌}
 use Rattle.languages.specs.declared.Mark.{Mark}

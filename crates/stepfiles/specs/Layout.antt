@@ -1,11 +1,11 @@
 -- Where things stand in a step file. Below, b is the list of its bytes; a byte that is not there reads as 0.
 --   byte_at b p, word_at b p      the byte at a place, the two-byte number there
 --   length_in, version_in, kind_in, rows_in, classes_in, text_length_in   the header's fields
---   table_at b                   the place of row 0
+--   table_at b                    the place of row 0
 --   row_at b r, target_at b r c   the place of row r, which begins with its mark, and of its target by class c
---   text_in b                    the stored text
---   table_in b                   the table: a row accepts where bit 0 of its mark is 1
---   Laid b l                    l is the layout of b, all of b's bytes have a place in it, and its numbers are small
+--   text_in b                     the stored text
+--   table_in b                    the table: a row accepts where bit 0 of its mark is 1
+--   Laid b l                      l is the layout of b, all of b's bytes have a place in it, and its numbers are small
 -- Assumes nothing.
 use Rattle.std.specs.Prelude.{◌≡◌, ℕ, ◌+◌, ◌*◌, ◌≤◌, List, length, take, drop, ◌==◌, bit_and, slice_index}
 use Rattle.languages.specs.Tables.{Table}

@@ -1,14 +1,14 @@
 -- What open asks, in its order, and what it leaves.
 --   first_no qs      the refusal of the first question of a list whose answer is no
 --   first_below f n  the first thing that f finds at a number below n
---   header b        the questions about the header, each with its answer
+--   header b         the questions about the header, each with its answer
 --   laid_out b       what the header answers: the layout, or the first refusal
 --   bad_target b     the place of the first target that is no row: bad_target_of one row and class, bad_target_in one row
 --   bad_mark b ms    the place of the first mark that is not the one in ms: bad_mark_of one row
 --   worked_in b      the numbers of the marks worked out from bit 0 of all marks
---   opened b s v    open's answer, what its place views afterwards, and its scratch afterwards; s is the scratch
---                   before, and v what the place viewed before. after_header, after_targets and after_marks are its
---                   steps, each given what the step found
+--   opened b s v     open's answer, what its place views afterwards, and its scratch afterwards; s is the scratch
+--                    before, and v what the place viewed before. after_header, after_targets and after_marks are its
+--                    steps, each given what the step found
 --   step_file b      open of b is refused for no reason but a short scratch
 -- Assumes nothing.
 use Rattle.std.specs.Prelude.{ℕ, zero, suc, ◌+◌, ◌*◌, Bool, cond, not, ◌&&◌, List, [], ◌∷◌, ◌++◌, map, length, drop, is_some, Some, None, Ok, Err, Option, Result, ◌==◌, nat_le, nat_lt, slice_index}

@@ -4,9 +4,9 @@
 --   entry_at p s        the entry of a bracket at the place p with the bytes s inside
 --   entries_in known t p    the entry of the token t at the place p, if it is a bracket that is none of the known texts
 --   entries_from known ts   the entries of the brackets of ts that are none of the known texts, each where it is first met
---   entries ts         the entry of each atom of ts, in the order of their numbers
---   listed a           the entries of the atoms in use
---   Meeting            whether a bracket is an atom, and the entries afterwards
+--   entries ts          the entry of each atom of ts, in the order of their numbers
+--   listed a            the entries of the atoms in use
+--   Meeting             whether a bracket is an atom, and the entries afterwards
 --   meeting text es p s    meeting a bracket at the place p with the bytes s, where es are known; 32 at the most
 --   taking text es p t     meeting the token t at the place p: only a bracket is an atom. No at the end too
 -- Assumes nothing.

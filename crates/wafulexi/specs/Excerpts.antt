@@ -2,8 +2,8 @@
 --   in_line b        the byte b is no line feed
 --   first_line bs    what stands before the first line feed of bs
 --   last_line bs     what stands behind the last one
---   pointed b a     a line that is b and then a, and under it a caret at where a begins
---   excerpt bs p    the line in which the place p stands, escaped, and under it a caret at the place
+--   pointed b a      a line that is b and then a, and under it a caret at where a begins
+--   excerpt bs p     the line in which the place p stands, escaped, and under it a caret at the place
 -- Assumes nothing.
 use Rattle.std.specs.Prelude.{ℕ, ◌-◌, Bool, not, List, ◌++◌, length, take, drop, replicate, codes, ◌==◌}
 use Rattle.std.specs.List.{prefix_len, suffix_len}

@@ -1,8 +1,8 @@
 -- The lines that `inspect` prints. Below, b is the list of a step file's bytes.
 --   heading b n       what the header says, and the file's whole length n
 --   targets b r c     a blank and the target, for each class below c
---   row_head b r       row r: its number and its mark byte, which in a step file is a mark's number
---   row_line b r       all of row r: its number, its mark and its targets
+--   row_head b r      row r: its number and its mark byte, which in a step file is a mark's number
+--   row_line b r      all of row r: its number, its mark and its targets
 -- Assumes nothing.
 use Rattle.std.specs.Prelude.{ℕ, zero, suc, List, [], ◌++◌, length, codes, decimal}
 use Rattle.stepfiles.specs.Layout.{byte_at, word_at, kind_in, rows_in, classes_in, text_in, row_at, target_at}

@@ -1,5 +1,5 @@
 -- The lines that `nodes` prints.
---   summed r n a     what a reading gave: the root r, n nodes and a atoms
+--   summed r n a      what a reading gave: the root r, n nodes and a atoms
 --   kind_word k       the word for a kind
 --   node_line n x     node n with the record x: its number, its kind, its parts, and 1 for the flag yes or 0 for no
 --   atom_line b n p l atom n, which is the l bytes at the place p of the text b: its number, its place and these bytes

@@ -1,8 +1,8 @@
 -- What a refusal says to a technician.
---   worded l    the word for a layer
---   prints b    the byte b prints: it is a blank, a tilde, or between them
+--   worded l     the word for a layer
+--   prints b     the byte b prints: it is a blank, a tilde, or between them
 --   all_print s  each byte of s prints
---   Sentence s  s is something to read on one line: it is not empty, and all of it prints
+--   Sentence s   s is something to read on one line: it is not empty, and all of it prints
 -- Assumes nothing.
 use Rattle.std.specs.Prelude.{◌≡◌, ℕ, ◌<◌, Bool, true, ◌&&◌, List, [], ◌∷◌, length, codes, nat_le}
 use Rattle.refusals.specs.declared.Layer.{Layer}
