@@ -6,7 +6,6 @@ use Rattle.nodes.specs.declared.node.Node.{Node}
 use Rattle.nodes.specs.declared.node.NodeKind.{NodeKind}
 use Rattle.nodes.specs.declared.node.NodeKind.TheVariants as Kind
 use Rattle.nodes.specs.declared.form.Form.{Form}
-use Rattle.nodes.specs.declared.form.Form.TheVariants as Form
 use Rattle.nodes.specs.Reading.{part, at, form_by, form_at, nullable_at}
 use Rattle.nodes.specs.Entering.{Held, Out, bind_by, bind, entered}
 use Rattle.nodes.specs.Deriving.{or_right, derived_by, derived}

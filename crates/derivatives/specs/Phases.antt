@@ -11,7 +11,6 @@ use Rattle.std.specs.declared.option.Option.TheVariants as option
 use Rattle.languages.specs.Rules.{has}
 use Rattle.nodes.specs.declared.node.Node.{Node}
 use Rattle.nodes.specs.declared.form.Form.{Form}
-use Rattle.nodes.specs.declared.form.Form.TheVariants as Form
 use Rattle.nodes.specs.Reading.{nullable_at}
 use Rattle.nodes.specs.Entering.{Held, Out, bind, entered}
 

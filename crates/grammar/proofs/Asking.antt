@@ -5,7 +5,6 @@
 -- Assumes nothing.
 use Rattle.std.proofs.Common.{◌≡◌, ℕ, zero, suc, ◌+◌, ◌*◌, Bool, true, false, eqb, ltb, List, length, get_or, Some, None, Ok, Err, Option, Result, refl}
 use Rattle.std.proofs.lemmas.Bool.{cond_both}
-use Rattle.languages.specs.Rules as Rule
 use Rattle.languages.specs.Rules.{Rule}
 use Rattle.refusals.specs.Questions.{layered}
 use Rattle.refusals.specs.declared.Layer.TheVariants.{Text}

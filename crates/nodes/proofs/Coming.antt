@@ -1,6 +1,6 @@
 -- Outcomes that come to a rule: at once, one after the other, and by interning a record.
 -- Assumes nothing.
-use Rattle.std.proofs.Common.{◌≡◌, ℕ, ◌+◌, ◌<◌, ◌≤◌, List, [], ◌∷◌, ◌++◌, length, get_or, Some, None, Ok, Err, Option, Result, sym, refl, ap, ◌∙◌, append_assoc, append-nil, arith}
+use Rattle.std.proofs.Common.{◌≡◌, ℕ, ◌<◌, ◌≤◌, List, [], ◌∷◌, ◌++◌, length, get_or, Some, None, Ok, Err, Option, Result, sym, refl, ap, ◌∙◌, append_assoc, append-nil, arith}
 use Rattle.std.proofs.lemmas.List.{length-append, length_push, get_or_at}
 use Rattle.languages.specs.Rules.{Rule, Same}
 use Rattle.languages.proofs.Laws.{same_refl, same_trans}
@@ -9,7 +9,6 @@ use Rattle.numbering.proofs.Finding.{first}
 use Rattle.refusals.specs.declared.Refusal.{Refusal}
 use Rattle.nodes.specs.declared.node.Node.{Node}
 use Rattle.nodes.specs.declared.form.Form.{Form}
-use Rattle.nodes.specs.declared.form.Form.TheVariants as Form
 use Rattle.nodes.specs.Records.{none_node, same_node}
 use Rattle.nodes.specs.Entering.{Held, Out, bind_by, recorded, appended, interned_by, interned, kept}
 use Rattle.nodes.specs.Soundness.{Below, Sound}

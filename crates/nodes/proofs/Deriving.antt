@@ -2,12 +2,10 @@
 --   Pairs f op      the form f of two nodes is the rule op of what they mean
 -- Assumes nothing.
 use Rattle.std.proofs.Common.{◌≡◌, ℕ, zero, suc, ◌<◌, Bool, true, false, cond, List, length, Ok, sym, refl, ◌∙◌, subst, not-suc-le-zero, arith}
-use Rattle.languages.specs.Rules as Rule
 use Rattle.languages.specs.Rules.{Rule, Same, has, nullable, derivative}
 use Rattle.languages.proofs.Laws.{same_trans, same_sequence, same_or, same_and, same_star, same_not}
 use Rattle.nodes.specs.declared.node.Node.{Node}
 use Rattle.nodes.specs.declared.form.Form.{Form}
-use Rattle.nodes.specs.declared.form.Form.TheVariants as Form
 use Rattle.nodes.specs.Reading.{form_at, nullable_at}
 use Rattle.nodes.specs.Entering.{Held, Out, bind, entered}
 use Rattle.nodes.specs.Deriving.{or_right, derived_by, derived}

@@ -1,12 +1,10 @@
 -- Entering a form comes to that form over the rules of its parts, whichever of its rules applies.
 -- Assumes nothing.
-use Rattle.std.proofs.Common.{◌≡◌, ℕ, zero, suc, ◌<◌, true, false, ◌||◌, eqb, ltb, length, Ok, refl, ap, ◌∙◌, inl, inr, arith}
+use Rattle.std.proofs.Common.{◌≡◌, ℕ, zero, suc, ◌<◌, true, ◌||◌, eqb, ltb, length, Ok, refl, ap, ◌∙◌, inl, inr, arith}
 use Rattle.std.proofs.lemmas.Bool.{cond_both, eqb-true, ltb-true, or_cases, false≢true}
-use Rattle.languages.specs.Rules as Rule
 use Rattle.languages.specs.Rules.{Rule, Same}
 use Rattle.languages.proofs.Laws.{same_sym, none_sequence, sequence_none, empty_sequence, sequence_empty, star_none, star_empty, star_star, not_not, none_or, or_none, all_or, or_all, all_and, and_all, none_and, and_none}
 use Rattle.nodes.specs.declared.form.Form.{Form}
-use Rattle.nodes.specs.declared.form.Form.TheVariants as Form
 use Rattle.nodes.specs.declared.form.Join.TheVariants as Join
 use Rattle.nodes.specs.Reading.{form_at}
 use Rattle.nodes.specs.Entering.{Held, kept, is_star, negated, entered}

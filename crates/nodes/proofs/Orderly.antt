@@ -6,16 +6,13 @@
 use Rattle.std.proofs.Common.{◌≡◌, ℕ, suc, Bool, cond, ◌||◌, eqb, ltb, List, [], ◌∷◌, length, Some, None, Ok, Err, Option, Result, refl, arith}
 use Rattle.std.proofs.lemmas.List.{length_push}
 use Rattle.std.proofs.lemmas.Bool.{cond_both}
-use Rattle.languages.specs.Rules as Rule
 use Rattle.languages.specs.Rules.{Rule}
 use Rattle.numbering.specs.Finding.{first_equal}
 use Rattle.refusals.specs.declared.Question.TheVariants.{NodeRoom}
 use Rattle.refusals.specs.declared.Refusal.{Refusal}
 use Rattle.nodes.specs.declared.node.Node.{Node}
 use Rattle.nodes.specs.declared.form.Form.{Form}
-use Rattle.nodes.specs.declared.form.Form.TheVariants as Form
 use Rattle.nodes.specs.declared.form.Join.{Join}
-use Rattle.nodes.specs.declared.form.Join.TheVariants as Join
 use Rattle.nodes.specs.Records.{same_node}
 use Rattle.nodes.specs.Reading.{form_at}
 use Rattle.nodes.specs.Entering.{Held, Out, bind_by, bind, recorded, appended, interned_by, interned, kept, joined, members, merge, chained, merged, is_star, negated, entered}

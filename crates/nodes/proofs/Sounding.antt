@@ -4,13 +4,11 @@
 use Rattle.std.proofs.Common.{◌≡◌, ℕ, zero, suc, ◌+◌, ◌<◌, ◌≤◌, Bool, true, false, cond, not, eqb, ltb, List, [], ◌∷◌, ◌++◌, length, get_or, take, drop, sym, refl, ap, ◌∙◌, subst, inl, inr, append_assoc, not-suc-le-zero, arith}
 use Rattle.std.proofs.lemmas.List.{get_or_append_left, length-append, length_push, get_or_push, take-append-drop, length-take-le, drop_more}
 use Rattle.std.proofs.lemmas.Bool.{cases_lt, lt-ltb, ne_eqb, cond-true, cond-false}
-use Rattle.languages.specs.Rules as Rule
 use Rattle.languages.specs.Rules.{Rule, none, empty, any, nullable}
 use Rattle.nodes.specs.declared.node.Node.{Node}
 use Rattle.nodes.specs.declared.node.NodeKind.{NodeKind}
 use Rattle.nodes.specs.declared.node.NodeKind.TheVariants as Kind
 use Rattle.nodes.specs.declared.form.Form.{Form}
-use Rattle.nodes.specs.declared.form.Form.TheVariants as Form
 use Rattle.nodes.specs.Records.{none_node, first_nodes}
 use Rattle.nodes.specs.Reading.{at, part, form_by, form_at, nullable_at}
 use Rattle.nodes.specs.Entering.{recorded}

@@ -7,7 +7,6 @@ use Rattle.nodes.specs.declared.node.Node.{Node}
 use Rattle.nodes.specs.declared.node.NodeKind.{NodeKind}
 use Rattle.nodes.specs.declared.node.NodeKind.TheVariants as Kind
 use Rattle.nodes.specs.declared.form.Form.{Form}
-use Rattle.nodes.specs.declared.form.Form.TheVariants as Form
 use Rattle.nodes.specs.Records.{none_node, first_nodes}
 use Rattle.nodes.specs.Reading.{at, nullable_at}
 use Rattle.nodes.specs.Entering.{recorded}

@@ -7,7 +7,6 @@ use Rattle.std.specs.Prelude.{ℕ, zero, suc, Bool, true, false, cond, List, Ok}
 use Rattle.languages.specs.Rules.{has}
 use Rattle.nodes.specs.declared.node.Node.{Node}
 use Rattle.nodes.specs.declared.form.Form.{Form}
-use Rattle.nodes.specs.declared.form.Form.TheVariants as Form
 use Rattle.nodes.specs.Reading.{form_at, nullable_at}
 use Rattle.nodes.specs.Entering.{Held, Out, bind, entered}
 

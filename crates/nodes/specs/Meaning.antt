@@ -5,11 +5,9 @@
 --   means p f         the rule of a form over the nodes p
 -- Assumes nothing.
 use Rattle.std.specs.Prelude.{ℕ, List, [], ◌∷◌, ◌++◌, length, slice_index_or}
-use Rattle.languages.specs.Rules as Rule
 use Rattle.languages.specs.Rules.{Rule}
 use Rattle.nodes.specs.declared.node.Node.{Node}
 use Rattle.nodes.specs.declared.form.Form.{Form}
-use Rattle.nodes.specs.declared.form.Form.TheVariants as Form
 use Rattle.nodes.specs.Reading.{form_by}
 
 abbrev pub rule_of : List Rule → Form → Rule

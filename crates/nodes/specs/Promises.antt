@@ -12,7 +12,6 @@ use Rattle.refusals.specs.declared.Refusal.{Refusal}
 use Rattle.languages.specs.Rules.{Rule, Same, derivative}
 use Rattle.nodes.specs.declared.node.Node.{Node}
 use Rattle.nodes.specs.declared.form.Form.{Form}
-use Rattle.nodes.specs.declared.form.Form.TheVariants as Form
 use Rattle.nodes.specs.Entering.{Held, Out}
 use Rattle.nodes.specs.Soundness.{Sound}
 use Rattle.nodes.specs.Meaning.{meaning, means}

@@ -4,7 +4,6 @@
 use Rattle.std.specs.Prelude.{ℕ, Option}
 use Rattle.std.specs.declared.option.Option.TheVariants as option
 use Rattle.nodes.specs.declared.form.Form.{Form}
-use Rattle.nodes.specs.declared.form.Form.TheVariants as Form
 
 abbrev pub undone : Form → Option ℕ
 undone Form.None = option.None

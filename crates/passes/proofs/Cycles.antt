@@ -9,11 +9,10 @@ use Rattle.grammar.specs.declared.token.Lexeme.{Lexeme}
 use Rattle.grammar.specs.Grammar.{Level, alternatives, conjunctions, sequences, prefixes, starred, bases}
 use Rattle.grammar.specs.Parsing.{joins}
 use Rattle.grammar.specs.Sighting.{token_of}
-use Rattle.grammar.specs.Tokens.{Lexed, leads, place, sign_of}
+use Rattle.grammar.specs.Tokens.{Lexed, leads, sign_of}
 use Rattle.nodes.specs.declared.form.Form.TheVariants as Form
 use Rattle.nodes.specs.Entering.{Held, Out}
 use Rattle.passes.specs.declared.binary.Binary.{Binary}
-use Rattle.passes.specs.declared.binary.Binary.TheVariants as Binary
 use Rattle.passes.specs.declared.part.Part.{Part}
 use Rattle.surveys.specs.declared.reader.Reader.{Reader}
 use Rattle.passes.specs.Going.{Behind, Goes, Grown, rank, size, size_on}

@@ -2,7 +2,6 @@
 -- Assumes nothing.
 use Rattle.std.proofs.Common.{ℕ}
 use Rattle.passes.specs.declared.binary.Binary.{Binary}
-use Rattle.passes.specs.declared.binary.Binary.TheVariants as Binary
 
 abbrev pub operand_depth : Binary → ℕ
 operand_depth Binary.Sequence = 4

@@ -7,10 +7,9 @@ use Rattle.grammar.specs.declared.token.Lexeme.{Lexeme}
 use Rattle.grammar.specs.Lexing.{onward_by}
 use Rattle.grammar.specs.Parsing.{joins, unexpected}
 use Rattle.grammar.specs.Sighting.{token_of}
-use Rattle.grammar.specs.Tokens.{Token, Lexed, token, begins_some, head, leads, place, rest, sign_of}
+use Rattle.grammar.specs.Tokens.{Token, Lexed, begins_some, head, leads, place, rest, sign_of}
 use Rattle.nodes.specs.Entering.{Held}
 use Rattle.passes.specs.declared.binary.Binary.{Binary}
-use Rattle.passes.specs.declared.binary.Binary.TheVariants as Binary
 use Rattle.surveys.specs.declared.reader.Reader.{Reader}
 use Rattle.surveys.specs.Looking.{Stands, StandsBy, after, standing}
 use Rattle.passes.specs.Passing.{Answer, inside, joins_with, level_of, over}

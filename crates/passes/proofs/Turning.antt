@@ -1,7 +1,7 @@
 -- Going on from a part, turn by turn.
 --   Growing s n X x h y g   going on from x with the pool h is going on from y with the pool g
 -- Assumes nothing.
-use Rattle.std.proofs.Common.{◌≡◌, ℕ, zero, suc, ◌-◌, ◌<◌, ◌≤◌, Bool, true, false, eqb, length, Ok, Err, sym, refl, ap, ◌∙◌, arith}
+use Rattle.std.proofs.Common.{◌≡◌, ℕ, zero, suc, ◌<◌, ◌≤◌, Bool, true, false, eqb, length, Ok, Err, sym, refl, ap, ◌∙◌, arith}
 use Rattle.std.proofs.lemmas.Bool.{eq-eqb, ne_eqb}
 use Rattle.refusals.specs.declared.Refusal.{Refusal}
 use Rattle.grammar.specs.declared.token.Lexeme.{Lexeme}
@@ -10,7 +10,6 @@ use Rattle.grammar.specs.Sighting.{token_of}
 use Rattle.grammar.specs.Tokens.{Lexed, sign_of}
 use Rattle.nodes.specs.declared.form.Form.TheVariants as Form
 use Rattle.nodes.specs.Entering.{Held, Out}
-use Rattle.passes.specs.declared.binary.Binary.TheVariants as Binary
 use Rattle.passes.specs.declared.part.Part.{Part}
 use Rattle.surveys.specs.declared.reader.Reader.{Reader}
 use Rattle.passes.specs.Going.{size_on}

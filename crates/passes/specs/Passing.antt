@@ -27,10 +27,8 @@ use Rattle.grammar.specs.Grammar.{Level, alternatives, conjunctions, sequences, 
 use Rattle.grammar.specs.Parsing.{joins, unexpected}
 use Rattle.grammar.specs.Tokens.{Token, bar, ampersand, bang, asterisk, opening, closing, nought, one, dot, bracket, Lexed, end, bad, token, begins_some, head, leads, place, rest, sign_of}
 use Rattle.nodes.specs.declared.form.Form.{Form}
-use Rattle.nodes.specs.declared.form.Form.TheVariants as Form
 use Rattle.nodes.specs.Entering.{Held, Out, entered}
 use Rattle.passes.specs.declared.binary.Binary.{Binary}
-use Rattle.passes.specs.declared.binary.Binary.TheVariants as Binary
 use Rattle.passes.specs.declared.part.Part.{Part}
 use Rattle.surveys.specs.declared.reader.Pass.{Pass}
 use Rattle.surveys.specs.declared.reader.Pass.TheVariants.{Check, Enter}

@@ -13,7 +13,6 @@ use Rattle.grammar.specs.Parsing.{Read, ahead, bases_by, closed_by, grown_by, jo
 use Rattle.grammar.specs.Tokens.{bar, ampersand, bang, asterisk, opening, closing, nought, one, dot, bracket, Lexed, end, bad, token, leads, opens, rest}
 use Rattle.nodes.specs.Entering.{Held}
 use Rattle.passes.specs.declared.binary.Binary.{Binary}
-use Rattle.passes.specs.declared.binary.Binary.TheVariants as Binary
 use Rattle.surveys.specs.declared.reader.Pass.TheVariants.{Check}
 use Rattle.passes.specs.Passing.{Answer, Grows, Reads, basing, go, grow_by, grow_into, growing, inside, level_of, negating, over, read_by, read_into, shut, starring}
 

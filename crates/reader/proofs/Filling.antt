@@ -1,7 +1,7 @@
 -- Reading that enters nodes enters the rule that the grammar's reader reads, where that reads one.
 --   placed o us   a node entered, with the tokens behind its text
 -- Assumes nothing.
-use Rattle.std.proofs.Common.{◌≡◌, ℕ, zero, suc, Bool, true, false, List, None, Ok, Err, Result, sym, refl, ap, ◌∙◌}
+use Rattle.std.proofs.Common.{◌≡◌, ℕ, zero, suc, Bool, true, false, List, Ok, Err, Result, sym, refl, ap, ◌∙◌}
 use Rattle.refusals.specs.declared.Refusal.{Refusal}
 use Rattle.languages.specs.Rules.{Rule, none, empty, any, atom, sequence, or, and, star, not}
 use Rattle.grammar.specs.Grammar.{Level, alternatives, conjunctions, sequences, prefixes, starred, bases}
@@ -10,11 +10,9 @@ use Rattle.grammar.specs.Parsing.{Read, ahead, bases_by, closed, closed_by, grow
 use Rattle.grammar.specs.Tokens.{bar, ampersand, bang, asterisk, opening, closing, nought, one, dot, bracket, Lexed, end, bad, token, leads, opens, rest}
 use Rattle.grammar.proofs.Steps.{err_never, ok_parts, then_ok, past_ok}
 use Rattle.nodes.specs.declared.form.Form.{Form}
-use Rattle.nodes.specs.declared.form.Form.TheVariants as Form
 use Rattle.nodes.specs.Entering.{Held, Out, bind, entered}
 use Rattle.nodes.specs.Trees.{entered_tree}
 use Rattle.passes.specs.declared.binary.Binary.{Binary}
-use Rattle.passes.specs.declared.binary.Binary.TheVariants as Binary
 use Rattle.surveys.specs.declared.reader.Pass.TheVariants.{Enter}
 use Rattle.passes.specs.Passing.{Answer, Grows, Reads, basing, go, grow_by, grow_into, growing, inside, joining, level_of, negating, onset_of, over, read_by, read_into, shut, starring, tighter, with, with_by}
 

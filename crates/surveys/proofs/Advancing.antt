@@ -9,7 +9,7 @@ use Rattle.grammar.specs.declared.token.Lexeme.{Lexeme}
 use Rattle.grammar.specs.Atoms.{within}
 use Rattle.grammar.specs.Lexing.{lexed_at, lexed_from, onward, onward_by}
 use Rattle.grammar.specs.Sighting.{sighted, token_of}
-use Rattle.grammar.specs.Tokens.{Token, Lexed, bad, token, sign_of}
+use Rattle.grammar.specs.Tokens.{Token, Lexed, bad, sign_of}
 use Rattle.grammar.proofs.Cutting.{lexed_from_step}
 use Rattle.surveys.specs.declared.reader.Reader.{Reader}
 use Rattle.surveys.specs.Looking.{after, standing}

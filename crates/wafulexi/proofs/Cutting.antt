@@ -1,5 +1,5 @@
 -- What an excerpt is put together from: lists cut at a place that may lie behind their end, and blanks. Assumes nothing.
-use Rattle.std.proofs.Common.{◌≡◌, ℕ, ◌+◌, ◌-◌, ◌≤◌, min, List, ◌++◌, length, take, drop, replicate, codes, sym, refl, ap, ◌∙◌, inl, inr, le_refl, arith, take_all}
+use Rattle.std.proofs.Common.{◌≡◌, ℕ, ◌+◌, ◌-◌, min, List, ◌++◌, length, take, drop, replicate, codes, sym, ap, ◌∙◌, inl, inr, le_refl, arith, take_all}
 use native.Mathlib.Nat.{min-eq_left, min-eq_right}
 use lib.Utf8.{encode}
 use Rattle.std.proofs.lemmas.List.{drop_all, take_rest, replicate_more}

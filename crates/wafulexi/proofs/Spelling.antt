@@ -1,6 +1,6 @@
 -- Words that are none of the program's own. Assumes nothing.
 use Prim.Native.String.{String as Text}
-use Rattle.std.proofs.Common.{◌≡◌, Bool, true, false, List, ◌∷◌, Err, codes, refl}
+use Rattle.std.proofs.Common.{◌≡◌, true, false, List, ◌∷◌, Err, codes, refl}
 use Rattle.std.proofs.lemmas.Slice.Eq.{bytes_eq-Decides}
 use Rattle.wafulexi.specs.Words.{Word, spelled, is, unknown, parsed}
 

@@ -1,4 +1,4 @@
-use Rattle.std.proofs.Common.{length, get_or, set, ap, ◌∙◌, arith}
+use Rattle.std.proofs.Common.{get_or, set, ap, ◌∙◌, arith}
 use Rattle.reader.proofs.Writes.{write_more, write_all}
 use Rattle.reader.proofs.writing.write_atoms.Goals as goal
 

@@ -1,4 +1,4 @@
-use Rattle.std.proofs.Common.{◌≡◌, length, take, sym, refl, ap, le_refl, arith}
+use Rattle.std.proofs.Common.{◌≡◌, length, take, ap, le_refl, arith}
 use lib.Seq.{take-length}
 use Rattle.std.specs.List.{suffix_len}
 use Rattle.wafulexi.specs.Excerpts.{in_line}
