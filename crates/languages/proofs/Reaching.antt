@@ -4,7 +4,7 @@
 --   Known t ms   ms says so of every row
 -- Assumes nothing.
 use Rattle.std.proofs.Common.{◌≡◌, ℕ, zero, suc, ◌<◌, ◌≤◌, Bool, true, false, List, [], ◌∷◌, get_or, set, Decides, sym, refl, ap, ◌∙◌, inl, inr, not-suc-le-zero, zero-add, arith}
-use Rattle.std.specs.List.{AllByRecursion as All}
+use Rattle.std.specs.List.{AllByRecursion}
 use Rattle.std.proofs.lemmas.List.FromFn.{get_or-map-range_with_len}
 use Rattle.std.proofs.lemmas.Bool.{false≢true, cases_eq, cases_Bool, or_cases, or_parts}
 use Rattle.languages.specs.declared.Mark.{Mark}
@@ -90,7 +90,7 @@ module _ (t : Table) where
         (λ r h. rw (get_or-map-range_with_len (λ i. first (t.accepts i)) 0 t.rows r r Lost h (zero-add r)) (told-first r (t.accepts r) refl))
 
     module _ (ms : List Mark) (known : Known t ms) (still : Still t ms t.rows) where
-      same_led : (cs : List ℕ) (r : ℕ) → r < t.rows → full (get_or ms r Lost) ≡ false → All (λ c. c < t.classes) cs →
+      same_led : (cs : List ℕ) (r : ℕ) → r < t.rows → full (get_or ms r Lost) ≡ false → AllByRecursion (λ c. c < t.classes) cs →
           t.accepts r ≡ t.accepts (led t r cs)
       same_led [] r h f below = refl
       same_led (c ∷ cs) r h f below =

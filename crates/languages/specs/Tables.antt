@@ -5,7 +5,7 @@
 --   Reaches t r s  some list of classes leads from row r to row s
 -- Assumes nothing.
 use Rattle.std.specs.Prelude.{◌≡◌, ℕ, ◌<◌, Bool, List, [], ◌∷◌}
-use Rattle.std.specs.List.{AllByRecursion as All}
+use Rattle.std.specs.List.{AllByRecursion}
 
 pub record Table : Type 0 where
   pub rows : ℕ
@@ -21,4 +21,4 @@ led t r [] = r
 led t r (c ∷ cs) = led t (t.next r c) cs
 
 abbrev pub Reaches : Table → ℕ → ℕ → Type 0
-Reaches t r s = (cs : List ℕ) × All (λ c. c < t.classes) cs × (led t r cs ≡ s)
+Reaches t r s = (cs : List ℕ) × AllByRecursion (λ c. c < t.classes) cs × (led t r cs ≡ s)

@@ -4,7 +4,7 @@
 --   all j p xs       the rules that the nodes xs of p mean, joined
 -- Assumes nothing.
 use Rattle.std.proofs.Common.{◌≡◌, ℕ, zero, suc, ◌<◌, eqb, ltb, ◌⊎◌, List, [], ◌∷◌, length, Some, None, Option, sym, refl, ap, ◌∙◌, inl, inr, arith}
-use Rattle.std.specs.List.{AllByRecursion as All}
+use Rattle.std.specs.List.{AllByRecursion}
 use Rattle.std.proofs.lemmas.Bool.{cond_both, eqb-true}
 use Rattle.languages.specs.Rules.{Rule, Same}
 use Rattle.languages.proofs.Joining.{Joins, joins_second, joins_again}
@@ -92,7 +92,7 @@ module _ (j : Join) (p : List Node) (sound : Sound p) where
         (same_path _ _ (sym (meaning_form p sound n h ∙ (ap (means p) w.2 ∙ means-joined j p w.0 w.1)))))
   ]
 
-  members_there : (k n : ℕ) → n < length p → All (λ m. m < length p) (members j p k n)
+  members_there : (k n : ℕ) → n < length p → AllByRecursion (λ m. m < length p) (members j p k n)
   unfolding members
   members_there zero n h = (h, tt)
   members_there (suc k) n h = elim (cases_joints j (form_at p n)) [
@@ -123,13 +123,13 @@ weave-filled x rest (y ∷ ys) = cond_both (ltb x y) _ _ Filled (λ e. (x, rest 
 merge-filled : (xs ys : List ℕ) → Filled xs → Filled (merge xs ys)
 merge-filled xs ys w = rw w.2 (weave-filled w.0 (merge w.1) ys)
 
-weave_all : (P : ℕ → Type 0) (x : ℕ) (rest : List ℕ → List ℕ) → P x → ((zs : List ℕ) → All P zs → All P (rest zs)) →
-    (ys : List ℕ) → All P ys → All P (weave x rest ys)
+weave_all : (P : ℕ → Type 0) (x : ℕ) (rest : List ℕ → List ℕ) → P x → ((zs : List ℕ) → AllByRecursion P zs → AllByRecursion P (rest zs)) →
+    (ys : List ℕ) → AllByRecursion P ys → AllByRecursion P (weave x rest ys)
 weave_all P x rest h more [] a = (h, more [] tt)
-weave_all P x rest h more (y ∷ ys) a = cond_both (ltb x y) _ _ (All P) (λ e. (h, more (y ∷ ys) a))
-    (λ e. cond_both (eqb x y) _ _ (All P) (λ f. (h, more ys a.1)) (λ f. (a.0, weave_all P x rest h more ys a.1)))
+weave_all P x rest h more (y ∷ ys) a = cond_both (ltb x y) _ _ (AllByRecursion P) (λ e. (h, more (y ∷ ys) a))
+    (λ e. cond_both (eqb x y) _ _ (AllByRecursion P) (λ f. (h, more ys a.1)) (λ f. (a.0, weave_all P x rest h more ys a.1)))
 
-merge_all : (P : ℕ → Type 0) (xs : List ℕ) → All P xs → (ys : List ℕ) → All P ys → All P (merge xs ys)
+merge_all : (P : ℕ → Type 0) (xs : List ℕ) → AllByRecursion P xs → (ys : List ℕ) → AllByRecursion P ys → AllByRecursion P (merge xs ys)
 merge_all P [] a ys b = b
 merge_all P (x ∷ xs) a ys b = weave_all P x (merge xs) a.0 (merge_all P xs a.1) ys b
 
@@ -171,11 +171,11 @@ module _ (j : Join) (p : List Node) where
       (all_weave x (all j p xs) (merge xs) (all_merge xs) ys)
       (same_sym _ _ ((joins j).grouped (meaning p x) (all j p xs) (all j p ys)))
 
-all_grown : (j : Join) (p q : List Node) → Grown p q → (xs : List ℕ) → All (λ m. m < length p) xs → all j q xs ≡ all j p xs
+all_grown : (j : Join) (p q : List Node) → Grown p q → (xs : List ℕ) → AllByRecursion (λ m. m < length p) xs → all j q xs ≡ all j p xs
 all_grown j p q g [] a = refl
 all_grown j p q g (x ∷ xs) a = rw (grown_meaning p q g x a.0, all_grown j p q g xs a.1)
 
-comes_chained : (j : Join) (x : ℕ) (xs : List ℕ) (h : Held) → Sound h.used → All (λ m. m < length h.used) (x ∷ xs) →
+comes_chained : (j : Join) (x : ℕ) (xs : List ℕ) (h : Held) → Sound h.used → AllByRecursion (λ m. m < length h.used) (x ∷ xs) →
     Comes h (all j h.used (x ∷ xs)) (chained j (x ∷ xs) h)
 comes_chained j x [] h sound a = comes_here h _ x sound a.0 (same_sym _ _ (unit_right j (meaning h.used x)))
 comes_chained j x (y ∷ ys) h sound a = comes_bind h (all j h.used (y ∷ ys)) _ (chained j (y ∷ ys) h).0 (chained j (y ∷ ys) h).1 (λ r g. kept (joined j x r) g)

@@ -5,7 +5,7 @@
 --   First x xs i           x stands at place i of xs, and not before
 -- Assumes nothing.
 use Rattle.std.specs.Prelude.{◌≡◌, ℕ, suc, Bool, cond, List, [], ◌∷◌, ◌++◌, length, Some, None, Option}
-use Rattle.std.specs.List.{AllByRecursion as All}
+use Rattle.std.specs.List.{AllByRecursion}
 
 abbrev pub first_from : {T : Type 0} → (T → T → Bool) → ℕ → List T → T → Option ℕ
 first_from eq k [] x = None
@@ -15,7 +15,7 @@ abbrev pub first_equal : {T : Type 0} → (T → T → Bool) → List T → T �
 first_equal eq xs x = first_from eq 0 xs x
 
 abbrev pub Absent : {T : Type 0} → T → List T → Type 0
-Absent x xs = All (λ y. ¬ (y ≡ x)) xs
+Absent x xs = AllByRecursion (λ y. ¬ (y ≡ x)) xs
 
 pub record First {T : Type 0} (x : T) (xs : List T) (i : ℕ) : Type 0 where
   pub before : List T

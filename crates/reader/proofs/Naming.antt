@@ -2,7 +2,7 @@
 --   Below names t   if the token t is a bracket, its number is below 32
 -- Assumes nothing.
 use Rattle.std.proofs.Common.{◌≡◌, ℕ, ◌<◌, ◌≤◌, Bool, true, false, ◌||◌, List, [], ◌∷◌, ◌++◌, length, sym, refl, subst, arith}
-use Rattle.std.specs.List.{AllByRecursion as All}
+use Rattle.std.specs.List.{AllByRecursion}
 use Rattle.std.specs.Str.{bytes_eq}
 use Rattle.std.proofs.lemmas.Slice.Eq.{bytes_eq-Decides}
 use Rattle.std.proofs.lemmas.Bool.{cond_both, or_left, or_right, false≢true}
@@ -81,7 +81,7 @@ head_below all known dot few kept = tt
 head_below all known (bracket s) few kept = let l = number_below all s (kept s (met_has known s)) in omega (arith, l, few)
 
 all_below : (all : List (List ℕ)) → length all ≤ 32 → (spots : List Spot) (p : ℕ) (known : List (List ℕ)) →
-    ((s : List ℕ) → among (atoms_from known (before spots (end p))) s ≡ true → among all s ≡ true) → All (Below (number_of all)) (tokens_in spots)
+    ((s : List ℕ) → among (atoms_from known (before spots (end p))) s ≡ true → among all s ≡ true) → AllByRecursion (Below (number_of all)) (tokens_in spots)
 unfolding atoms_from
 all_below all few [] p known kept = tt
 all_below all few (x ∷ spots) p known kept = (
@@ -90,33 +90,33 @@ all_below all few (x ∷ spots) p known kept = (
 )
 
 -- The two parts of what holds throughout a list.
-all_front : (P : Token → Type 0) (us vs : List Token) → All P (us ++ vs) → All P us
+all_front : (P : Token → Type 0) (us vs : List Token) → AllByRecursion P (us ++ vs) → AllByRecursion P us
 all_front P [] vs h = tt
 all_front P (u ∷ us) vs h = (h.0, all_front P us vs h.1)
 
-all_back : (P : Token → Type 0) (us vs : List Token) → All P (us ++ vs) → All P vs
+all_back : (P : Token → Type 0) (us vs : List Token) → AllByRecursion P (us ++ vs) → AllByRecursion P vs
 all_back P [] vs h = h
 all_back P (u ∷ us) vs h = all_back P us vs h.1
 
-few_atoms : (names : List ℕ → ℕ) {n : ℕ} {X : Level} {ts : List Token} {r : Rule} → Writes names n X ts r → All (Below names) ts → Few r
+few_atoms : (names : List ℕ → ℕ) {n : ℕ} {X : Level} {ts : List Token} {r : Rule} → Writes names n X ts r → AllByRecursion (Below names) ts → Few r
 few_atoms names (either us vs e w x) h =
-    let g = subst (All (Below names)) e h in (few_atoms names w (all_front _ us (bar ∷ vs) g), few_atoms names x (all_back _ us (bar ∷ vs) g).1)
+    let g = subst (AllByRecursion (Below names)) e h in (few_atoms names w (all_front _ us (bar ∷ vs) g), few_atoms names x (all_back _ us (bar ∷ vs) g).1)
 few_atoms names (conjunction w) h = few_atoms names w h
 few_atoms names (both us vs e w x) h =
-    let g = subst (All (Below names)) e h in (few_atoms names w (all_front _ us (ampersand ∷ vs) g), few_atoms names x (all_back _ us (ampersand ∷ vs) g).1)
+    let g = subst (AllByRecursion (Below names)) e h in (few_atoms names w (all_front _ us (ampersand ∷ vs) g), few_atoms names x (all_back _ us (ampersand ∷ vs) g).1)
 few_atoms names (sequenced w) h = few_atoms names w h
 few_atoms names (followed us vs e w x) h =
-    let g = subst (All (Below names)) e h in (few_atoms names w (all_front _ us vs g), few_atoms names x (all_back _ us vs g))
+    let g = subst (AllByRecursion (Below names)) e h in (few_atoms names w (all_front _ us vs g), few_atoms names x (all_back _ us vs g))
 few_atoms names (prefixed w) h = few_atoms names w h
-few_atoms names (negated us e w) h = let g = subst (All (Below names)) e h in few_atoms names w g.1
+few_atoms names (negated us e w) h = let g = subst (AllByRecursion (Below names)) e h in few_atoms names w g.1
 few_atoms names (plain w) h = few_atoms names w h
-few_atoms names (repeated us e w) h = let g = subst (All (Below names)) e h in few_atoms names w (all_front _ us (asterisk ∷ []) g)
+few_atoms names (repeated us e w) h = let g = subst (AllByRecursion (Below names)) e h in few_atoms names w (all_front _ us (asterisk ∷ []) g)
 few_atoms names (base w) h = few_atoms names w h
-few_atoms names (enclosed us e w) h = let g = subst (All (Below names)) e h in few_atoms names w (all_front _ us (closing ∷ []) g.1)
+few_atoms names (enclosed us e w) h = let g = subst (AllByRecursion (Below names)) e h in few_atoms names w (all_front _ us (closing ∷ []) g.1)
 few_atoms names (no_list e) h = tt
 few_atoms names (empty_list e) h = tt
 few_atoms names (any_letter e) h = tt
-few_atoms names (named s e) h = let g = subst (All (Below names)) e h in g.0
+few_atoms names (named s e) h = let g = subst (AllByRecursion (Below names)) e h in g.0
 
 pub few_written : (text : List ℕ) (r : Rule) → Written text r → Few r
 few_written text r w = few_atoms (number_of (atoms (lexed text))) w.writes

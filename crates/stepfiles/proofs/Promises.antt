@@ -1,7 +1,7 @@
 -- A file passes every check exactly where it is a step file in the words of reachability, and what open and its view
 -- answer means just that. Assumes nothing.
 use Rattle.std.proofs.Common.{◌≡◌, ℕ, ◌<◌, ◌≤◌, Bool, true, false, cond, not, ◌&&◌, ltb, leb, List, [], ◌∷◌, ◌++◌, length, get_or, drop, is_some, is_ok, Some, None, Err, Decides, Option, sym, refl, ap, ◌∙◌, subst, arith, MatchResult}
-use Rattle.std.specs.List.{AllByRecursion as All}
+use Rattle.std.specs.List.{AllByRecursion}
 use Rattle.std.proofs.lemmas.List.{get_or-map, get_or_append_left, length-map}
 use Rattle.std.proofs.lemmas.Bool.{leb-true, le-leb, and_parts, and_from, lt-ltb, eq-eqb, cond-true}
 use Rattle.languages.specs.declared.Mark.TheVariants.{Lost}
@@ -112,7 +112,7 @@ one_of : (P : Refusal → Type 0) (y : Bool) (g f : Refusal) (o : Option Refusal
 one_of P true g f o here later e = later e
 one_of P false g f o here later e = let same : g ≡ f = cc in subst P same here
 
-among : (P : Refusal → Type 0) (qs : List (Bool × Refusal)) → All (λ q. P q.1) qs → (f : Refusal) → first_no qs ≡ Some f → P f
+among : (P : Refusal → Type 0) (qs : List (Bool × Refusal)) → AllByRecursion (λ q. P q.1) qs → (f : Refusal) → first_no qs ≡ Some f → P f
 among P [] all f e = let z : ◌≡◌ {A = ℕ} 0 1 = cc in absurd (omega arith)
 among P (q ∷ qs) all f e = one_of P q.0 q.1 f (first_no qs) all.0 (among P qs all.1 f) e
 

@@ -1,6 +1,6 @@
 //! The commands, each in a module of its own.
 mod inspect;
-pub mod nodes;
+pub mod node_list;
 
 use crate::failures::Failure;
 use crate::usage::USAGE;

@@ -27,7 +27,7 @@ fn main(rt: HostRuntime) -> ExitCode {
 
 fn run(rt: &HostRuntime) -> Result<(), Failure> {
     match words::parse_nodes(own_words(rt)?) {
-        Ok(Some(source)) => return commands::nodes::nodes(rt, source),
+        Ok(Some(source)) => return commands::node_list::nodes(rt, source),
         Ok(None) => {}
         Err(misuse) => return Err(Failure::Misuse(misuse)),
     }
