@@ -2,7 +2,7 @@
 --   Word             a word as the system hands it over
 --   spelled w        its bytes
 --   is w s           w is the word s
---   is_option s       the word with the bytes s begins with a dash
+--   is_option s      the word with the bytes s begins with a dash
 --   ended ws x       x, if no word is left
 --   unknown w        what is wrong with w, which should be a command
 --   named w          the source that w names: standard input by a lone dash, a file unless w is an option
