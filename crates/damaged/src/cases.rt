@@ -1,6 +1,6 @@
 //! Cases: a file, perhaps a damaged one, and the scratch that it is opened in.
-use crate::tables::{Shape, table};
-use anyhow::{Context, anyhow};
+use crate::tables::{Shape, Table};
+use anyhow::{anyhow, ensure};
 use std::alloc::Global;
 
 /// The file of the rule `[61][62]|[61][63]`.
@@ -36,75 +36,51 @@ impl Case {
     }
 
     fn change(&mut self, heap: Global, word: &str) -> anyhow::Result<()> {
-        match word.split_once('=') {
-            Some((name, value)) => self.set(heap, name, value)?,
-            None => {
-                match word {
-                    "example" => self.bytes = Vec::from_slice(heap, EXAMPLE)?,
-                    "nothing" => self.bytes = Vec::from_slice(heap, NOTHING)?,
-                    "true" => mend_length(&mut self.bytes),
-                    _ => return Err(anyhow!("unknown word")),
-                }
-            }
+        if let Some((name, value)) = word.split_once('=') {
+            return self.set(heap, name, value);
+        }
+        match word {
+            "example" => self.bytes = Vec::from_slice(heap, EXAMPLE)?,
+            "nothing" => self.bytes = Vec::from_slice(heap, NOTHING)?,
+            "true" => self.mend_length(),
+            _ => return Err(anyhow!("unknown word")),
         }
         Ok(())
     }
 
     fn set(&mut self, heap: Global, name: &str, value: &str) -> anyhow::Result<()> {
+        if let Ok(shape) = name.parse::<Shape>() {
+            self.bytes = Table::sized(shape, value)?.file(heap)?;
+            self.mend_length();
+            return Ok(());
+        }
         match name {
             "room" => self.room = value.parse::<usize>()?,
             "size" => self.bytes.resize(value.parse::<usize>()?, 0)?,
-            "lost" => self.bytes = sized(heap, Shape::Lost, value)?,
-            "chain" => self.bytes = sized(heap, Shape::Chain, value)?,
-            "back" => self.bytes = sized(heap, Shape::Back, value)?,
-            "ring" => self.bytes = sized(heap, Shape::Ring, value)?,
-            _ => write_hex(&mut self.bytes, name.parse::<usize>()?, value)?,
+            _ => write_hex(heap, &mut self.bytes, name.parse::<usize>()?, value)?,
         }
         Ok(())
     }
-}
 
-/// A table of ROWS,CLASSES,TEXT.
-fn sized(heap: Global, shape: Shape, sizes: &str) -> anyhow::Result<Vec<u8>> {
-    let (rows, rest) = sizes.split_once(',').context("no class count")?;
-    let (classes, text) = rest.split_once(',').context("no text length")?;
-    let mut bytes = table(
-        heap,
-        shape,
-        rows.parse::<u16>()?,
-        classes.parse::<u8>()?,
-        text.parse::<u16>()?,
-    )?;
-    mend_length(&mut bytes);
-    Ok(bytes)
-}
-
-/// Makes the length field say how many bytes there are.
-fn mend_length(bytes: &mut Vec<u8>) {
-    let length = u32::try_from(bytes.len()).unwrap_or(u32::MAX);
-    for (place, byte) in length.to_be_bytes().iter().enumerate() {
-        if let Some(old) = bytes.get_mut(place) {
-            *old = *byte;
+    /// Makes the length field say how many bytes there are.
+    fn mend_length(&mut self) {
+        let length = u32::try_from(self.bytes.len()).unwrap_or(u32::MAX);
+        for (old, new) in self.bytes.iter_mut().zip(length.to_be_bytes()) {
+            *old = new;
         }
     }
 }
 
-/// Writes bytes, given as pairs of hexadecimal digits, from a place on.
-fn write_hex(bytes: &mut Vec<u8>, place: usize, digits: &str) -> anyhow::Result<()> {
-    let mut high = None;
-    let mut at = place;
-    for digit in digits.chars() {
-        let value = digit.to_digit(16).context("no hexadecimal digit")?;
-        match high {
-            None => high = Some(value),
-            Some(above) => {
-                if let Some(old) = bytes.get_mut(at) {
-                    *old = u8::try_from(above.wrapping_mul(16).wrapping_add(value)).unwrap_or(0);
-                }
-                at = at.saturating_add(1);
-                high = None;
-            }
-        }
+/// Writes bytes, given as pairs of hexadecimal digits, from a place on. A last digit without another gives none.
+fn write_hex(heap: Global, bytes: &mut Vec<u8>, place: usize, digits: &str) -> anyhow::Result<()> {
+    let digits = digits.as_bytes();
+    ensure!(
+        digits.iter().all(u8::is_ascii_hexdigit),
+        "no hexadecimal digit"
+    );
+    let given = hex::decode(heap, &digits[..digits.len() / 2 * 2])?;
+    for (old, new) in bytes.iter_mut().skip(place).zip(given) {
+        *old = new;
     }
     Ok(())
 }

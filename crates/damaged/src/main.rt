@@ -6,7 +6,7 @@ mod cases;
 mod outcomes;
 mod tables;
 
-use anyhow::anyhow;
+use anyhow::ensure;
 use cases::Case;
 use outcomes::of_opening;
 use std::io::{BufRead, BufReader, BufWriter, Write};
@@ -28,9 +28,10 @@ fn run(rt: &HostRuntime) -> anyhow::Result<()> {
     let mut earlier = StepFile::built_in();
     let built_in = outcomes::seen(heap, earlier)?;
     println!(rt; "built in: {built_in}")?;
-    if open(EARLIER, &mut scratch, &mut earlier).is_err() {
-        return Err(anyhow!("the earlier file does not open"));
-    }
+    ensure!(
+        open(EARLIER, &mut scratch, &mut earlier).is_ok(),
+        "the earlier file does not open"
+    );
     open_all(rt, earlier)
 }
 
@@ -40,8 +41,7 @@ fn open_all(rt: &HostRuntime, earlier: StepFile) -> anyhow::Result<()> {
     let mut out = BufWriter::new(heap, rt.stdout())?;
     let mut count = 0u32;
     for line in BufReader::new(heap, rt.stdin())?.lines(heap) {
-        let line = line?;
-        let case = Case::read(heap, line.as_str())?;
+        let case = Case::read(heap, line?.as_str())?;
         out.writeln(of_opening(heap, earlier, &case)?)?;
         count = count.saturating_add(1);
     }

@@ -17,12 +17,8 @@ pub fn of_opening<'a>(
     let mut place = earlier;
     let answer = open(case.bytes.as_slice(), scratch.as_mut_slice(), &mut place);
     let told = match answer {
-        Ok(()) => format!(in heap; "opened")?,
-        Err(refusal) => {
-            let number = refusal.question.number();
-            let place = refusal.place;
-            format!(in heap; "{number} at {place}")?
-        }
+        Ok(()) => String::from_str(heap, "opened")?,
+        Err(refusal) => refusal.to_string(heap)?,
     };
     let seen = seen(heap, place)?;
     let outside = outside(place);
@@ -32,20 +28,19 @@ pub fn of_opening<'a>(
 
 /// All that a view tells.
 pub fn seen(heap: Global, view: StepFile) -> Result<String, AllocError> {
-    let kind = view.kind();
+    let kind = view.kind().number();
     let rows = view.row_count();
     let classes = view.class_count();
     let text = view.text().len();
     let letters = weighed(view.text());
-    let mut table = 0u32;
+    let mut table = 0;
     for row in 0..rows {
-        let mark = match view.mark(row) {
-            Some(mark) => u32::from(mark.number()),
-            None => 0,
-        };
-        table = weigh(table, mark);
+        table = weigh(
+            table,
+            view.mark(row).map_or(0, |mark| u32::from(mark.number())),
+        );
         for class in 0..classes {
-            table = weigh(table, number(view.target(row, class)));
+            table = weigh(table, view.target(row, class).map_or(0, number));
         }
     }
     format!(in heap;
@@ -53,36 +48,27 @@ pub fn seen(heap: Global, view: StepFile) -> Result<String, AllocError> {
     )
 }
 
-/// How many marks and targets a view tells of rows and classes that are not there.
-fn outside(view: StepFile) -> u32 {
-    let mut told = 0u32;
-    for row in [view.row_count(), usize::MAX] {
-        if view.mark(row).is_some() || view.target(row, 0).is_some() {
-            told = told.saturating_add(1);
-        }
-    }
-    for class in [view.class_count(), usize::MAX] {
-        if view.target(0, class).is_some() {
-            told = told.saturating_add(1);
-        }
-    }
-    told
+fn number(target: usize) -> u32 {
+    u32::try_from(target).unwrap_or(0)
 }
 
-fn number(target: Option<usize>) -> u32 {
-    match target {
-        Some(target) => u32::try_from(target).unwrap_or(0),
-        None => 0,
-    }
+/// How many marks and targets a view tells of rows and classes that are not there.
+fn outside(view: StepFile) -> usize {
+    let rows = [view.row_count(), usize::MAX];
+    let classes = [view.class_count(), usize::MAX];
+    let by_row = rows.iter().filter(|row| view.mark(**row).is_some()
+        || view.target(**row, 0).is_some());
+    let by_class = classes
+        .iter()
+        .filter(|class| view.target(0, **class).is_some());
+    by_row.chain(by_class).count()
 }
 
 /// A number by which lists are told apart: each item counts by its place.
 fn weighed(bytes: &[u8]) -> u32 {
-    let mut total = 0u32;
-    for byte in bytes {
-        total = weigh(total, u32::from(*byte));
-    }
-    total
+    bytes
+        .iter()
+        .fold(0, |total, byte| weigh(total, u32::from(*byte)))
 }
 
 fn weigh(total: u32, item: u32) -> u32 {

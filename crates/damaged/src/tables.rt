@@ -1,5 +1,8 @@
 //! Good files of any size.
+use anyhow::Context;
 use std::alloc::{AllocError, Global};
+use std::str::FromStr;
+use stepfiles::Mark;
 
 /// How the rows of a table lead to one another.
 #[derive(Clone, Copy)]
@@ -14,47 +17,83 @@ pub enum Shape {
     Ring,
 }
 
-/// All of a file but its length, with a text that counts up from 0.
-pub fn table(
-    heap: Global,
+/// A word that names no shape.
+#[derive(Clone, Copy)]
+pub struct UnknownShape;
+
+impl FromStr for Shape {
+    type Err = UnknownShape;
+
+    fn from_str(name: &str) -> Result<Shape, UnknownShape> {
+        match name {
+            "lost" => Ok(Shape::Lost),
+            "chain" => Ok(Shape::Chain),
+            "back" => Ok(Shape::Back),
+            "ring" => Ok(Shape::Ring),
+            _ => Err(UnknownShape),
+        }
+    }
+}
+
+/// A table, and how many bytes of text come before it.
+#[derive(Clone, Copy)]
+pub struct Table {
     shape: Shape,
     rows: u16,
     classes: u8,
     text: u16,
-) -> Result<Vec<u8>, AllocError> {
-    let mut bytes = Vec::from_slice(heap, &[0, 0, 0, 0, 1, 2])?;
-    bytes.extend_from_slice(&rows.to_be_bytes())?;
-    bytes.push(classes)?;
-    bytes.extend_from_slice(&text.to_be_bytes())?;
-    for letter in 0..text {
-        bytes.push((letter % 256) as u8)?;
+}
+
+impl Table {
+    /// The table of a shape and of a size ROWS,CLASSES,TEXT.
+    pub fn sized(shape: Shape, sizes: &str) -> anyhow::Result<Table> {
+        let (rows, rest) = sizes.split_once(',').context("no class count")?;
+        let (classes, text) = rest.split_once(',').context("no text length")?;
+        Ok(Table {
+            shape,
+            rows: rows.parse::<u16>()?,
+            classes: classes.parse::<u8>()?,
+            text: text.parse::<u16>()?,
+        })
     }
-    for row in 0..rows {
-        bytes.push(mark(shape, rows, row))?;
-        for class in 0..classes {
-            bytes.extend_from_slice(&target(shape, rows, row, class).to_be_bytes())?;
+
+    /// All of a file but its length, with a text that counts up from 0.
+    pub fn file(self, heap: Global) -> Result<Vec<u8>, AllocError> {
+        let mut bytes = Vec::from_slice(heap, &[0, 0, 0, 0, 1, 2])?;
+        bytes.extend_from_slice(&self.rows.to_be_bytes())?;
+        bytes.push(self.classes)?;
+        bytes.extend_from_slice(&self.text.to_be_bytes())?;
+        for letter in 0..self.text {
+            bytes.push((letter % 256) as u8)?;
+        }
+        for row in 0..self.rows {
+            bytes.push(self.mark(row).number())?;
+            for class in 0..self.classes {
+                bytes.extend_from_slice(&self.target(row, class).to_be_bytes())?;
+            }
+        }
+        Ok(bytes)
+    }
+
+    fn mark(self, row: u16) -> Mark {
+        match self.shape {
+            Shape::Lost => Mark::Lost,
+            Shape::Chain if row.saturating_add(1) == self.rows => Mark::Settled,
+            Shape::Back if row == 0 => Mark::Settled,
+            Shape::Ring if row % 2 == 0 => Mark::Holds,
+            Shape::Chain | Shape::Back | Shape::Ring => Mark::Open,
         }
     }
-    Ok(bytes)
-}
 
-fn mark(shape: Shape, rows: u16, row: u16) -> u8 {
-    match shape {
-        Shape::Lost => 4,
-        Shape::Chain => if row.saturating_add(1) == rows { 3 } else { 6 },
-        Shape::Back => if row == 0 { 3 } else { 6 },
-        Shape::Ring => if row % 2 == 0 { 7 } else { 6 },
-    }
-}
-
-fn target(shape: Shape, rows: u16, row: u16, class: u8) -> u16 {
-    match shape {
-        Shape::Lost => 0,
-        Shape::Chain => row.saturating_add(1).min(rows.saturating_sub(1)),
-        Shape::Back => row.saturating_sub(1),
-        Shape::Ring => {
-            let on = u32::from(row) + u32::from(class) + 1;
-            u16::try_from(on.checked_rem(u32::from(rows)).unwrap_or(0)).unwrap_or(0)
+    fn target(self, row: u16, class: u8) -> u16 {
+        match self.shape {
+            Shape::Lost => 0,
+            Shape::Chain => row.saturating_add(1).min(self.rows.saturating_sub(1)),
+            Shape::Back => row.saturating_sub(1),
+            Shape::Ring => {
+                let on = u32::from(row) + u32::from(class) + 1;
+                u16::try_from(on.checked_rem(u32::from(self.rows)).unwrap_or(0)).unwrap_or(0)
+            }
         }
     }
 }

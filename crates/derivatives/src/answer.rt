@@ -9,8 +9,5 @@ const ATOMS: u16 = 32;
 pub(crate) fn has_atom(answers: u32, atom: u16) -> bool
     ensures { result ≡ has atom answers }
 {
-    if atom >= ATOMS {
-        return false;
-    }
-    (answers >> atom) % 2 == 1
+    atom < ATOMS && (answers >> atom) % 2 == 1
 }

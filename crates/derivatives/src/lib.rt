@@ -2,7 +2,7 @@
 #![tactic(auto)]
 
 mod answer;
-mod phase;
+mod parts;
 mod walk;
 
 pub use walk::derive;

@@ -90,7 +90,7 @@ begins_no_star (bracket s) h = refl
 
 -- Spots by the tokens at them.
 pub first_spot : (t : Token) (us : List Token) (spots : List Spot) → tokens_in spots ≡ t ∷ us → (p : ℕ) × (s : List Spot) × (spots ≡ (t, p) ∷ s) × (tokens_in s ≡ us)
-first_spot t us [] h = let z : ◌≡◌ {A = ℕ} 0 1 = cc in absurd (omega arith)
+first_spot t us [] h = absurd (grind arith)
 first_spot t us (x ∷ s) h =
     let a : x.0 ≡ t = cc in
     (x.1, s, λ i. (a i, x.1) ∷ s, cc)

@@ -67,11 +67,11 @@ within_far e (token t p ts) h =
 
 -- What tokens that come to the end begin with.
 bad_never : (r : Refusal) (spots : List Spot) (e : ℕ) → bad r ≡ before spots (end e) → ⊥
-bad_never r [] e h = let z : ◌≡◌ {A = ℕ} 0 1 = cc in omega arith
-bad_never r (s ∷ spots) e h = let z : ◌≡◌ {A = ℕ} 0 1 = cc in omega arith
+bad_never r [] e h = grind arith
+bad_never r (s ∷ spots) e h = grind arith
 
 token_first : (t : Token) (p : ℕ) (ts : Lexed) (spots : List Spot) (e : ℕ) → token t p ts ≡ before spots (end e) → (later : List Spot) × (spots ≡ (t, p) ∷ later) × (ts ≡ before later (end e))
-token_first t p ts [] e h = let z : ◌≡◌ {A = ℕ} 0 1 = cc in absurd (omega arith)
+token_first t p ts [] e h = absurd (grind arith)
 token_first t p ts (s ∷ later) e h =
     let a : s.0 ≡ t = cc in
     let b : s.1 ≡ p = cc in

@@ -51,7 +51,7 @@ module _ (f : Refusal) where
   err_same e h = cc
 
   ok_never : (x : Rule × Lexed) → ◌≡◌ {A = Read} (Ok x) (Err f) → ⊥
-  ok_never x h = let z : ◌≡◌ {A = ℕ} 0 1 = cc in omega arith
+  ok_never x h = grind arith
 
   then_err : {C : Type 0} (m : Read) (g : Rule → Lexed → Read) → (m ≡ Err f → C) → ((x : Rule × Lexed) → m ≡ Ok x → g x.0 x.1 ≡ Err f → C) → then m g ≡ Err f → C
   then_err (Ok x) g a b h = b x refl h
@@ -102,7 +102,7 @@ module _ (f : Refusal) where
       stopped_fault (has (suc d)) t p ts stops (λ e. absurd (true≢false (sym (ap (λ u. leads 41 (token u p ts)) e) ∙ is)))
 
   left_fault : (q : Rule) (ts : Lexed) → Stops alternatives ts → whole q ts ≡ Err f → Fault (has 0) ts
-  left_fault q (end p) stops h = let z : ◌≡◌ {A = ℕ} 0 1 = cc in absurd (omega arith)
+  left_fault q (end p) stops h = absurd (grind arith)
   left_fault q (bad e) stops h = cc
   left_fault q (token t p ts) stops h = stopped_fault (has 0) t p ts stops (λ e. subst (λ u. Fault (has 0) (token u p ts)) (sym e) (cc))
 

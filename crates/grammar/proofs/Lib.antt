@@ -1,4 +1,3 @@
-pub mod Skipping
 pub mod Cutting
 pub mod Counting
 pub mod Steps

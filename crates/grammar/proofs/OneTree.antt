@@ -16,7 +16,7 @@ use Rattle.grammar.proofs.Sound.{read_sound}
 use Rattle.grammar.proofs.Complete.{read_complete}
 
 refused_never : (f : Refusal) (r : Rule) → ◌≡◌ {A = Result Rule Refusal} (Err f) (Ok r) → ⊥
-refused_never f r h = let z : ◌≡◌ {A = ℕ} 0 1 = cc in omega arith
+refused_never f r h = grind arith
 
 whole_ok : (q : Rule) (ts : Lexed) (r : Rule) → whole q ts ≡ Ok r → (p : ℕ) × (q ≡ r) × (ts ≡ end p)
 whole_ok q (end p) r h = (p, cc, refl)

@@ -10,7 +10,7 @@ use Rattle.grammar.specs.Lexing.{bare}
 use Rattle.grammar.specs.Parsing.{Read, then, past}
 
 pub err_never : (r : Refusal) (x : Rule × Lexed) → ◌≡◌ {A = Read} (Err r) (Ok x) → ⊥
-err_never r x h = let z : ◌≡◌ {A = ℕ} 0 1 = cc in omega arith
+err_never r x h = grind arith
 
 pub ok_parts : (r q : Rule) (ts us : Lexed) → ◌≡◌ {A = Read} (Ok (r, ts)) (Ok (q, us)) → (r ≡ q) × (ts ≡ us)
 ok_parts r q ts us h =

@@ -12,7 +12,7 @@
 --   lexed text          the tokens of a text
 -- Assumes nothing.
 use Rattle.std.specs.Prelude.{ℕ, zero, suc, ◌+◌, ◌-◌, Bool, cond, not, ◌||◌, List, length, take, drop, Some, None, Ok, Err, Option, Result, ◌==◌, nat_lt, slice_index}
-use Rattle.std.specs.List.{prefix_len}
+use Rattle.std.specs.List.{position_or_len}
 use Rattle.refusals.specs.Questions.{refusing}
 use Rattle.refusals.specs.declared.Question.TheVariants.{TokenStart, BracketClosed}
 use Rattle.refusals.specs.declared.Refusal.{Refusal}
@@ -38,7 +38,7 @@ abbrev pub Piece : Type 0
 Piece = Option Token × ℕ × ℕ
 
 abbrev pub closing_at : List ℕ → ℕ → ℕ
-closing_at text at = at + prefix_len (λ b. not (b == 93)) (drop at text)
+closing_at text at = at + position_or_len (λ b. b == 93) (drop at text)
 
 abbrev pub bracket_to : List ℕ → ℕ → ℕ → Result Piece Refusal
 bracket_to text start to =
@@ -57,7 +57,7 @@ abbrev pub begun : List ℕ → ℕ → Result Piece Refusal
 begun text start = cond (nat_lt start (length text)) (piece_at text start (slice_index text start)) (Ok (None, length text, length text))
 
 abbrev pub start_at : List ℕ → ℕ → ℕ
-start_at text at = at + prefix_len blank (drop at text)
+start_at text at = at + position_or_len (λ b. not (blank b)) (drop at text)
 
 abbrev pub lexed_at : List ℕ → ℕ → Result Piece Refusal
 lexed_at text at = begun text (start_at text at)

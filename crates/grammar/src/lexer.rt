@@ -1,6 +1,6 @@
 //! Cutting a text into tokens, one at a time.
-ghost use Rattle.std.specs.Prelude.{◌≡◌, ◌+◌, ◌<◌, ◌≤◌, length};
-ghost use Rattle.grammar.specs.Lexing.{blank, bracket_to, closing_at, lexed_at, start_at};
+ghost use Rattle.std.specs.Prelude.{◌≡◌, ◌+◌, ◌<◌, ◌==◌, drop, length, not, position};
+ghost use Rattle.grammar.specs.Lexing.{blank, bracket_to, closing_at, lexed_at};
 ghost use Rattle.grammar.specs.Sighting.{sighted};
 
 use crate::token::{Lexeme, Token};
@@ -10,15 +10,14 @@ use refusals::{Question, Refusal};
 pub fn next<'t>(text: &'t [u8], at: usize) -> Result<Lexeme<'t>, Refusal>
     ensures { sighted result ≡ lexed_at text.now at }
 {
-    let place = start(text, at);
-    if place >= text.len() {
-        let length = text.len();
+    let Some(skipped) = skipped(rest_from(text, at)) else {
         return Ok(Lexeme {
             token: Token::End,
-            place: length,
-            after: length,
+            place: text.len(),
+            after: text.len(),
         });
-    }
+    };
+    let place = at + skipped;
     let token = match text[place] {
         b'|' => Token::Bar,
         b'&' => Token::Ampersand,
@@ -45,10 +44,10 @@ fn bracket<'t>(text: &'t [u8], place: usize) -> Result<Lexeme<'t>, Refusal>
     ensures { sighted result ≡ bracket_to text.now place (closing_at text.now (place + 1)) }
 {
     let inside = place + 1;
-    let close = closing(text, inside);
-    if close >= text.len() {
+    let Some(size) = closing(&text[inside..]) else {
         return Err(Question::BracketClosed.at(place));
-    }
+    };
+    let close = inside + size;
     Ok(Lexeme {
         token: Token::Bracket(&text[inside..close]),
         place,
@@ -56,32 +55,29 @@ fn bracket<'t>(text: &'t [u8], place: usize) -> Result<Lexeme<'t>, Refusal>
     })
 }
 
-/// The place of the first byte from `at` on that may not be skipped.
-fn start(text: &[u8], at: usize) -> usize
-    ensures { result ≡ start_at text.now at }
+/// How many bytes stand before the first `]`, if there is one.
+fn closing(rest: &[u8]) -> Option<usize>
+    ensures { result ≡ position (λ b. b == 93) rest.now }
 {
-    let mut place = at;
-    while place < text.len() && is_blank(text[place]) {
-        place += 1;
-    }
-    place
+    rest.iter().position(|byte| *byte == b']')
 }
 
-/// The place of the first `]` from `at` on; the text's length where there is none.
-fn closing(text: &[u8], at: usize) -> usize
-    requires { at ≤ length text.now }
-    ensures value { result ≡ closing_at text.now at }
-    ensures behind { at ≤ result }
+/// How many bytes are skipped before the first that may not be, if there is one.
+fn skipped(rest: &[u8]) -> Option<usize>
+    ensures { result ≡ position (λ b. not (blank b)) rest.now }
 {
-    let mut place = at;
-    while place < text.len() && text[place] != b']' {
-        place += 1;
-    }
-    place
+    rest.iter().position(|byte| !is_blank(*byte))
+}
+
+/// The bytes of the text from `at` on; none where it has ended before.
+fn rest_from<'t>(text: &'t [u8], at: usize) -> &'t [u8]
+    ensures { result.now ≡ drop at text.now }
+{
+    text.get(at..).unwrap_or(&[])
 }
 
 fn is_blank(byte: u8) -> bool
     ensures { result ≡ blank byte }
 {
-    byte == b' ' || byte == b'\n'
+    matches!(byte, b' ' | b'\n')
 }

@@ -1,7 +1,7 @@
 //! The tokens of a rule text.
 
 /// A token. A bracket holds the bytes between its `[` and its `]`; `End` is the end of the text.
-#[derive(Clone, Copy)]
+#[derive(Clone, Copy, PartialEq, Eq, Debug)]
 pub enum Token<'t> {
     Bar,
     Ampersand,
@@ -17,7 +17,7 @@ pub enum Token<'t> {
 }
 
 /// A token with the place of its first byte and the place behind its last.
-#[derive(Clone, Copy)]
+#[derive(Clone, Copy, PartialEq, Eq, Debug)]
 pub struct Lexeme<'t> {
     pub token: Token<'t>,
     pub place: usize,

@@ -6,8 +6,8 @@
 --   differ a b   a and b are not the same
 -- Assumes nothing.
 use Rattle.std.proofs.Common.{◌≡◌, Bool, true, false, not, ◌&&◌, ◌||◌, sym, refl}
-use Rattle.languages.specs.declared.Mark.{Mark}
-use Rattle.languages.specs.declared.Mark.TheVariants.{Settled, Holds, Open, Lost}
+use Rattle.languages.specs.declared.marks.Mark.{Mark}
+use Rattle.languages.specs.declared.marks.Mark.TheVariants.{Settled, Holds, Open, Lost}
 use Rattle.languages.specs.Marks.{join}
 
 abbrev pub accepted : Mark → Bool

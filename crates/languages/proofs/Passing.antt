@@ -4,8 +4,8 @@ use Rattle.std.proofs.Common.{◌≡◌, ℕ, zero, suc, ◌+◌, ◌<◌, true,
 use Rattle.std.proofs.lemmas.List.{length-set}
 use Rattle.std.proofs.lemmas.List.FromFn.{length-map-range_with_len}
 use Rattle.std.proofs.lemmas.Bool.{and_from}
-use Rattle.languages.specs.declared.Mark.{Mark}
-use Rattle.languages.specs.declared.Mark.TheVariants.{Lost}
+use Rattle.languages.specs.declared.marks.Mark.{Mark}
+use Rattle.languages.specs.declared.marks.Mark.TheVariants.{Lost}
 use Rattle.languages.specs.Tables.{Table}
 use Rattle.languages.specs.Marks.{first, join, gathered, passed_below, passes, begun, worked}
 use Rattle.languages.proofs.Marking.{accepted, sees_yes, sees_no, accepted_join, join_full}

@@ -7,8 +7,8 @@ use Rattle.std.proofs.lemmas.List.{length-set, set-get_or}
 use Rattle.std.proofs.ByRecursion.{All-from_get_or, sum_by_le}
 use Rattle.std.proofs.lemmas.List.Sums.{sum_by-set}
 use Rattle.std.proofs.lemmas.Bool.{and_parts, cond_both, cond-true, cond-false}
-use Rattle.languages.specs.declared.Mark.{Mark}
-use Rattle.languages.specs.declared.Mark.TheVariants.{Lost}
+use Rattle.languages.specs.declared.marks.Mark.{Mark}
+use Rattle.languages.specs.declared.marks.Mark.TheVariants.{Lost}
 use Rattle.languages.specs.Tables.{Table}
 use Rattle.languages.specs.Marks.{gathered, passed_below, passes, begun, worked}
 use Rattle.languages.proofs.Marking.{sees_yes, sees_no, full, same_mark}

@@ -4,8 +4,8 @@
 use Rattle.std.proofs.Common.{◌≡◌, ℕ, ◌<◌, Bool, true, false, get_or, Decides, sym, refl, ◌∙◌, inl, inr}
 use Rattle.std.proofs.lemmas.Bool.{false≢true, cases_Bool, not-true}
 use Rattle.std.proofs.lemmas.Bool.Decides.{same_from_decides}
-use Rattle.languages.specs.declared.Mark.{Mark}
-use Rattle.languages.specs.declared.Mark.TheVariants.{Settled, Holds, Open, Lost}
+use Rattle.languages.specs.declared.marks.Mark.{Mark}
+use Rattle.languages.specs.declared.marks.Mark.TheVariants.{Settled, Holds, Open, Lost}
 use Rattle.languages.specs.Tables.{Table, Closed, Reaches}
 use Rattle.languages.specs.Marks.{Stands, worked}
 use Rattle.languages.specs.Theorems.{MarksSayWhatIsReached}

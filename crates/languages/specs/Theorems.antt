@@ -1,8 +1,8 @@
 -- What is proved of tables and marks.
 -- Assumes nothing.
 use Rattle.std.specs.Prelude.{◌≡◌, ℕ, ◌<◌, ◌≤◌, length, slice_index_or}
-use Rattle.languages.specs.declared.Mark.{Mark}
-use Rattle.languages.specs.declared.Mark.TheVariants.{Lost}
+use Rattle.languages.specs.declared.marks.Mark.{Mark}
+use Rattle.languages.specs.declared.marks.Mark.TheVariants.{Lost}
 use Rattle.languages.specs.Tables.{Table, Closed}
 use Rattle.languages.specs.Marks.{Stands, passes, begun, worked}
 

@@ -5,7 +5,7 @@ use Rattle.std.proofs.lemmas.Bool.{cond_both, eqb-true, ltb-true, or_cases, fals
 use Rattle.languages.specs.Rules.{Rule, Same}
 use Rattle.languages.proofs.Laws.{same_sym, none_sequence, sequence_none, empty_sequence, sequence_empty, star_none, star_empty, star_star, not_not, none_or, or_none, all_or, or_all, all_and, and_all, none_and, and_none}
 use Rattle.nodes.specs.declared.form.Form.{Form}
-use Rattle.nodes.specs.declared.form.Join.TheVariants as Join
+use Rattle.nodes.specs.declared.merging.Join.TheVariants as Join
 use Rattle.nodes.specs.Reading.{form_at}
 use Rattle.nodes.specs.Entering.{Held, kept, is_star, negated, entered}
 use Rattle.nodes.specs.Soundness.{Sound}

@@ -1,5 +1,4 @@
 pub mod Pools
-pub mod Failing
 pub mod Members
 pub mod Growing
 pub mod Sounding

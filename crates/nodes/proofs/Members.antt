@@ -5,7 +5,7 @@ use Rattle.std.proofs.lemmas.Bool.{ltb-true, true≢false}
 use Rattle.nodes.specs.declared.node.Node.{Node}
 use Rattle.nodes.specs.declared.node.NodeKind.{NodeKind}
 use Rattle.nodes.specs.declared.node.NodeKind.TheVariants as Kind
-use Rattle.nodes.specs.declared.form.Join.{Join}
+use Rattle.nodes.specs.declared.merging.Join.{Join}
 use Rattle.nodes.specs.declared.merging.Next.{Next}
 use Rattle.nodes.specs.Reading.{part, form_by, form_at, at}
 use Rattle.nodes.specs.Entering.{Held, Out, bind, kept, joined, joints, members, members_by, merge, chained}

@@ -11,7 +11,7 @@ use Rattle.languages.proofs.Joining.{Joins, joins_second, joins_again}
 use Rattle.languages.proofs.Laws.{same_refl, same_sym, same_trans, same_or, same_and, or_twice, or_turned, or_grouped, and_twice, and_turned, and_grouped, or_none, none_or, and_all, all_and}
 use Rattle.nodes.specs.declared.node.Node.{Node}
 use Rattle.nodes.specs.declared.form.Form.{Form}
-use Rattle.nodes.specs.declared.form.Join.{Join}
+use Rattle.nodes.specs.declared.merging.Join.{Join}
 use Rattle.nodes.specs.Reading.{form_at}
 use Rattle.nodes.specs.Entering.{Held, kept, joined, joints, members_by, members, weave, merge, chained, merged}
 use Rattle.nodes.specs.Soundness.{Below, Sound}

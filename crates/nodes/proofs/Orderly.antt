@@ -12,7 +12,7 @@ use Rattle.refusals.specs.declared.Question.TheVariants.{NodeRoom}
 use Rattle.refusals.specs.declared.Refusal.{Refusal}
 use Rattle.nodes.specs.declared.node.Node.{Node}
 use Rattle.nodes.specs.declared.form.Form.{Form}
-use Rattle.nodes.specs.declared.form.Join.{Join}
+use Rattle.nodes.specs.declared.merging.Join.{Join}
 use Rattle.nodes.specs.Records.{same_node}
 use Rattle.nodes.specs.Reading.{form_at}
 use Rattle.nodes.specs.Entering.{Held, Out, bind_by, bind, recorded, appended, interned_by, interned, kept, joined, members, merge, chained, merged, is_star, negated, entered}

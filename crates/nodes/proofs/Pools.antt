@@ -1,9 +1,11 @@
 -- A pool as the book over its first places: what is read there, and what numbering a record there comes to.
 -- Assumes nothing.
-use Rattle.std.proofs.Common.{◌≡◌, ℕ, zero, suc, ◌-◌, ◌<◌, ◌≤◌, false, eqb, List, [], ◌∷◌, ◌++◌, length, get_or, take, drop, Some, None, Ok, Err, Option, Result, sym, refl, ap, ◌∙◌, arith}
+use Rattle.std.proofs.Common.{◌≡◌, ℕ, zero, suc, ◌-◌, ◌<◌, ◌≤◌, false, eqb, List, [], ◌∷◌, ◌++◌, length, get_or, take, drop, Some, None, Ok, Err, Option, Result, sym, refl, ap, ◌∙◌, ◌⊎◌, inl, inr, arith}
 use Rattle.std.proofs.lemmas.List.{length-take, length-append, length-drop, get_or_past}
 use Rattle.std.proofs.lemmas.Bool.{ne_eqb}
+use Rattle.std.proofs.lemmas.Option.{unwrap_or-slice_get}
 use Rattle.std.specs.List.{slice_get}
+use Rattle.std.specs.Option.{unwrap_or, UnwrapsOrElse}
 use Rattle.refusals.specs.Questions.{refusing}
 use Rattle.refusals.specs.declared.Question.TheVariants.{NodeRoom}
 use Rattle.refusals.specs.declared.Refusal.{Refusal}
@@ -13,10 +15,11 @@ use Rattle.numbering.specs.Numbering.{Pages, pages, placed, unless_found, number
 use Rattle.numbering.proofs.Finding.{nth_take}
 use Rattle.numbering.proofs.Numbering.{numbered-means}
 use Rattle.nodes.specs.declared.node.Node.{Node}
+use Rattle.nodes.specs.declared.node.NodeKind.TheVariants as Kind
 use Rattle.nodes.specs.Records.{same_node, none_node}
 use Rattle.nodes.specs.Reading.{at}
 use Rattle.nodes.specs.Entering.{Held, Out, held, appended, interned_by, interned}
-use Rattle.nodes.specs.Sameness.{same_exact}
+use Rattle.nodes.specs.Sameness.{node_from, same_exact}
 
 take_comm : {X : Type 0} (m n : ℕ) (xs : List X) → take m (take n xs) ≡ take n (take m xs)
 take_comm zero zero xs = refl
@@ -25,35 +28,35 @@ take_comm (suc m) zero xs = refl
 take_comm (suc m) (suc n) [] = refl
 take_comm (suc m) (suc n) (x ∷ xs) = ap (λ ys. x ∷ ys) (take_comm m n xs)
 
-abbrev or_else : {X : Type 0} → Option X → X → X
-or_else (Some x) d = x
-or_else None d = d
+-- A node's default is the record of node 0.
+abbrev IsDefault : Node → Type 0
+IsDefault x = (x.kind ≡ Kind.None) × ((x.left ≡ 0) × ((x.right ≡ 0) × (x.nullable ≡ false)))
 
-get_or-nth : {X : Type 0} (xs : List X) (i : ℕ) (d : X) → get_or xs i d ≡ or_else (slice_get xs i) d
-get_or-nth [] i d = refl
-get_or-nth (x ∷ xs) zero d = refl
-get_or-nth (x ∷ xs) (suc i) d = get_or-nth xs i d
+default_none : (x : Node) → IsDefault x → x ≡ none_node
+default_none x d = node_from x none_node d.0 d.1.0 d.1.1.0 d.1.1.1
+
+unwrapped : (o : Option Node) (x : Node) → UnwrapsOrElse o IsDefault x → x ≡ unwrap_or o none_node
+unwrapped (Some y) x e = e
+unwrapped None x d = default_none x d
 
 -- What a book shows at a place within the largest pool.
 module _ (items : List Node) (count n : ℕ) where
-  read_within : n < 4096 → get_or (held items count).used n none_node ≡ or_else (slice_get (take count items) n) none_node
+  read_within : n < 4096 → get_or (held items count).used n none_node ≡ unwrap_or (slice_get (take count items) n) none_node
   unfolding held
   read_within h =
-      get_or-nth (take count (take 4096 items)) n none_node
-      ∙ ap (λ o. or_else o none_node) (ap (λ xs. slice_get xs n) (take_comm count 4096 items) ∙ nth_take (take count items) 4096 n h)
+      sym (unwrap_or-slice_get (take count (take 4096 items)) n none_node)
+      ∙ ap (λ o. unwrap_or o none_node) (ap (λ xs. slice_get xs n) (take_comm count 4096 items) ∙ nth_take (take count items) 4096 n h)
 
-  pub read_zero : n ≡ 0 → none_node ≡ at (held items count).used n
-  read_zero e = rw e
-
-  pub read_past : 4096 ≤ n → none_node ≡ at (held items count).used n
+  pub read_default : (x : Node) → IsDefault x → (n ≡ 0) ⊎ (4096 ≤ n) → x ≡ at (held items count).used n
   unfolding held
-  read_past h =
-      let past : length (take count (take 4096 items)) ≤ n = simp length-take (omega arith) in
-      let ne : eqb n 0 ≡ false = ne_eqb n 0 (λ e. omega arith) in
-      rw (ne, get_or_past (take count (take 4096 items)) n none_node past)
+  read_default x d (inl zeroth) = rw zeroth (default_none x d)
+  read_default x d (inr past) =
+      let short : length (take count (take 4096 items)) ≤ n = simp length-take (omega arith) in
+      let later : eqb n 0 ≡ false = ne_eqb n 0 (λ e. omega arith) in
+      rw (later, get_or_past (take count (take 4096 items)) n none_node short) (default_none x d)
 
-  pub read_as : (o : Option Node) → ¬ (n ≡ 0) → n < 4096 → o ≡ slice_get (take count items) n → or_else o none_node ≡ at (held items count).used n
-  read_as o later h is = rw (ne_eqb n 0 later, read_within h, ← is)
+  pub read_as : (x : Node) → UnwrapsOrElse (slice_get (take count items) n) IsDefault x → ¬ (n ≡ 0) → n < 4096 → x ≡ at (held items count).used n
+  read_as x d later h = rw (ne_eqb n 0 later) (unwrapped (slice_get (take count items) n) x d ∙ sym (read_within h))
 
 take-size : {X : Type 0} (m : ℕ) (xs : List X) → take (length (take m xs)) xs ≡ take m xs
 take-size zero xs = refl
@@ -121,21 +124,21 @@ module _ (items : List Node) (n : ℕ) (x : Node) (ys : List Node) (m k : ℕ) (
       interned_by-is x (pages (take 4096 items) n) (drop 4096 items) (first_equal same_node (take n (take 4096 items)) x)
       ∙ ap (answered_out (pages (take 4096 items) n) (drop 4096 items)) (ap (λ xs. numbered same_node (pages xs n) x) (sym whole) ∙ sym is)
 
-  pub interned_found : (i : ℕ) → ◌≡◌ {A = book.Out Node} (Some i, pages ys m) (numbered same_node (pages (take k items) n) x) →
-      ◌≡◌ {A = Out} (Ok i, held (ys ++ drop k items) m) (interned (held items n) x)
-  interned_found i is = rw after (sym (before (Some i) is))
+  module _ (o : Option ℕ) (is : ◌≡◌ {A = book.Out Node} (o, pages ys m) (numbered same_node (pages (take k items) n) x)) where
+    pub interned_found : (i : ℕ) → o ≡ Some i → ◌≡◌ {A = Out} (Ok i, held (ys ++ drop k items) m) (interned (held items n) x)
+    interned_found i found =
+        rw after (sym (before o is ∙ rw found refl))
 
-  pub number_below : (i : ℕ) → ◌≡◌ {A = book.Out Node} (Some i, pages ys m) (numbered same_node (pages (take k items) n) x) → i < 4096
-  number_below i is =
-      let f = (numbered-means same_node same_exact x (pages (take k items) n) (Some i) (pages ys m) is).answer in
-      let long = length-append f.before (x ∷ f.behind) in
-      let all : length (take m ys) ≡ length (f.before ++ (x ∷ f.behind)) = ap length f.parts in
-      omega (arith, long, all, f.place, length-take m ys, kept, length-take k items, size, length-take 4096 items)
+    pub number_below : (i : ℕ) → o ≡ Some i → i < 4096
+    number_below i found =
+        let f = (numbered-means same_node same_exact x (pages (take k items) n) (Some i) (pages ys m) (ap (λ t. (t, pages ys m)) (sym found) ∙ is)).answer in
+        let long = length-append f.before (x ∷ f.behind) in
+        let all : length (take m ys) ≡ length (f.before ++ (x ∷ f.behind)) = ap length f.parts in
+        omega (arith, long, all, f.place, length-take m ys, kept, length-take k items, size, length-take 4096 items)
 
-  pub interned_full : (place : ℕ) → place ≡ k → ◌≡◌ {A = book.Out Node} (None, pages ys m) (numbered same_node (pages (take k items) n) x) →
-      ◌≡◌ {A = Out} (Err (refusing NodeRoom place), held (ys ++ drop k items) m) (interned (held items n) x)
-  interned_full place same is =
-      let a = (numbered-means same_node same_exact x (pages (take k items) n) None (pages ys m) is).answer in
-      let full : length (take 4096 items) - n ≡ 0 = sym (length-drop n (take 4096 items)) ∙ ap length (ap (drop n) (sym whole) ∙ a.1) in
-      let all : length (take n (take 4096 items)) ≡ place = omega (arith, length-take n (take 4096 items)) in
-      rw (after, ← all) (sym (before None is))
+    pub interned_full : o ≡ None → ◌≡◌ {A = Out} (Err (refusing NodeRoom k), held (ys ++ drop k items) m) (interned (held items n) x)
+    interned_full none =
+        let a = (numbered-means same_node same_exact x (pages (take k items) n) None (pages ys m) (ap (λ t. (t, pages ys m)) (sym none) ∙ is)).answer in
+        let full : length (take 4096 items) - n ≡ 0 = sym (length-drop n (take 4096 items)) ∙ ap length (ap (drop n) (sym whole) ∙ a.1) in
+        let all : length (take n (take 4096 items)) ≡ k = omega (arith, length-take n (take 4096 items)) in
+        rw (after, ← all) (sym (before o is ∙ rw none refl))

@@ -3,6 +3,8 @@
 use Rattle.std.proofs.Common.{◌≡◌, ℕ, zero, suc, ◌+◌, ◌<◌, ◌≤◌, Bool, true, false, not, ◌&&◌, ◌||◌, eqb, ltb, List, ◌∷◌, ◌++◌, length, get_or, drop, Some, None, Option, sym, refl, ap, ◌∙◌, inl, inr, arith}
 use Rattle.std.proofs.lemmas.List.{drop_more, length-append, get_or_append_left}
 use Rattle.std.proofs.lemmas.Bool.{cases_lt, ltb-true, ltb-false, lt-ltb, le-ltb, eqb-true, and_parts, and_from, not-true, false≢true, cond-true, cond-false, cond_both, ne_eqb}
+use Rattle.std.specs.Cmp.{booleans_Decides}
+use Rattle.std.specs.List.{find, range_with_len}
 use Rattle.nodes.specs.declared.node.Node.{Node}
 use Rattle.nodes.specs.declared.node.NodeKind.{NodeKind}
 use Rattle.nodes.specs.declared.node.NodeKind.TheVariants as Kind
@@ -10,8 +12,8 @@ use Rattle.nodes.specs.declared.form.Form.{Form}
 use Rattle.nodes.specs.Records.{none_node, first_nodes}
 use Rattle.nodes.specs.Reading.{at, nullable_at}
 use Rattle.nodes.specs.Entering.{recorded}
-use Rattle.nodes.specs.Soundness.{flag_at, sound_by, sound_as, proper, first_failing, asked, first_unsound, Below, SoundAt, Sound, Told}
-use Rattle.nodes.specs.Sameness.{same_flags, same_flag_itself, node_from, same_exact}
+use Rattle.nodes.specs.Soundness.{flag_at, sound_by, sound_as, proper, asked, first_unsound, Below, SoundAt, Sound, Told}
+use Rattle.nodes.specs.Sameness.{node_from, same_exact}
 
 abbrev Stands : List Node → ℕ → Node → Type 0
 Stands p n x = (f : Form) × Below n f × (x ≡ recorded p f)
@@ -33,15 +35,15 @@ module _ (p : List Node) (begins : get_or p 0 none_node ≡ none_node) where
   sound_by_lem n Kind.Sequence l r e h =
       let a = and_parts (ltb l n) _ h in
       let b = and_parts (ltb r n) _ a.1 in
-      (Form.Sequence l r, (ltb-true l n a.0, ltb-true r n b.0), node_from _ _ refl refl refl (rw (flag_is l, flag_is r) at (same_flags e (flag_at p l && flag_at p r) b.1)))
+      (Form.Sequence l r, (ltb-true l n a.0, ltb-true r n b.0), node_from _ _ refl refl refl (rw (flag_is l, flag_is r) at ((booleans_Decides e (flag_at p l && flag_at p r)).0 b.1)))
   sound_by_lem n Kind.Or l r e h =
       let a = and_parts (ltb l n) _ h in
       let b = and_parts (ltb r n) _ a.1 in
-      (Form.Or l r, (ltb-true l n a.0, ltb-true r n b.0), node_from _ _ refl refl refl (rw (flag_is l, flag_is r) at (same_flags e (flag_at p l || flag_at p r) b.1)))
+      (Form.Or l r, (ltb-true l n a.0, ltb-true r n b.0), node_from _ _ refl refl refl (rw (flag_is l, flag_is r) at ((booleans_Decides e (flag_at p l || flag_at p r)).0 b.1)))
   sound_by_lem n Kind.And l r e h =
       let a = and_parts (ltb l n) _ h in
       let b = and_parts (ltb r n) _ a.1 in
-      (Form.And l r, (ltb-true l n a.0, ltb-true r n b.0), node_from _ _ refl refl refl (rw (flag_is l, flag_is r) at (same_flags e (flag_at p l && flag_at p r) b.1)))
+      (Form.And l r, (ltb-true l n a.0, ltb-true r n b.0), node_from _ _ refl refl refl (rw (flag_is l, flag_is r) at ((booleans_Decides e (flag_at p l && flag_at p r)).0 b.1)))
   sound_by_lem n Kind.Star l r e h =
       let a = and_parts (ltb l n) _ h in
       let b = and_parts (eqb r 0) _ a.1 in
@@ -49,7 +51,7 @@ module _ (p : List Node) (begins : get_or p 0 none_node ≡ none_node) where
   sound_by_lem n Kind.Not l r e h =
       let a = and_parts (ltb l n) _ h in
       let b = and_parts (eqb r 0) _ a.1 in
-      (Form.Not l, ltb-true l n a.0, node_from _ _ refl refl (eqb-true r 0 b.0) (rw (flag_is l) at (same_flags e (not (flag_at p l)) b.1)))
+      (Form.Not l, ltb-true l n a.0, node_from _ _ refl refl (eqb-true r 0 b.0) (rw (flag_is l) at ((booleans_Decides e (not (flag_at p l))).0 b.1)))
 
   pair_by : (n l r : ℕ) (b : Bool) → l < n → r < n → b ≡ true → (ltb l n && (ltb r n && b)) ≡ true
   pair_by n l r b h g e = and_from _ _ (lt-ltb l n h) (and_from _ _ (lt-ltb r n g) e)
@@ -59,11 +61,11 @@ module _ (p : List Node) (begins : get_or p 0 none_node ≡ none_node) where
   by_sound n Form.Empty h = absurd h
   by_sound n Form.Any h = absurd h
   by_sound n (Form.Atom k) h = and_from _ _ (lt-ltb k 32 h) refl
-  by_sound n (Form.Sequence l r) h = pair_by n l r _ h.0 h.1 (rw (flag_is l, flag_is r) (same_flag_itself (nullable_at p l && nullable_at p r)))
-  by_sound n (Form.Or l r) h = pair_by n l r _ h.0 h.1 (rw (flag_is l, flag_is r) (same_flag_itself (nullable_at p l || nullable_at p r)))
-  by_sound n (Form.And l r) h = pair_by n l r _ h.0 h.1 (rw (flag_is l, flag_is r) (same_flag_itself (nullable_at p l && nullable_at p r)))
+  by_sound n (Form.Sequence l r) h = pair_by n l r _ h.0 h.1 (rw (flag_is l, flag_is r) ((booleans_Decides (nullable_at p l && nullable_at p r) (nullable_at p l && nullable_at p r)).1 refl))
+  by_sound n (Form.Or l r) h = pair_by n l r _ h.0 h.1 (rw (flag_is l, flag_is r) ((booleans_Decides (nullable_at p l || nullable_at p r) (nullable_at p l || nullable_at p r)).1 refl))
+  by_sound n (Form.And l r) h = pair_by n l r _ h.0 h.1 (rw (flag_is l, flag_is r) ((booleans_Decides (nullable_at p l && nullable_at p r) (nullable_at p l && nullable_at p r)).1 refl))
   by_sound n (Form.Star l) h = and_from _ _ (lt-ltb l n h) refl
-  by_sound n (Form.Not l) h = and_from _ _ (lt-ltb l n h) (rw (flag_is l) (same_flag_itself (not (nullable_at p l))))
+  by_sound n (Form.Not l) h = and_from _ _ (lt-ltb l n h) (rw (flag_is l) ((booleans_Decides (not (nullable_at p l)) (not (nullable_at p l))).1 refl))
 
   later_is : (n : ℕ) → 4 ≤ n → sound_as p n (get_or p n none_node) ≡ sound_by p n (get_or p n none_node).kind (get_or p n none_node).left (get_or p n none_node).right (get_or p n none_node).nullable
   later_is n h = cond-false (ltb n 4) _ _ (le-ltb n 4 h)
@@ -86,12 +88,14 @@ module _ (p : List Node) (begins : get_or p 0 none_node ≡ none_node) where
 
 -- What a scan for the first failure finds.
 module _ (f : ℕ → Bool) where
-  none_fails : (k n : ℕ) → first_failing f n k ≡ None → (m : ℕ) → n ≤ m → m < n + k → f m ≡ true
-  unfolding first_failing
+  abbrev first_failing : ℕ → ℕ → Option ℕ
+  first_failing n k = find (λ m. not (f m)) (range_with_len n k)
+
+  none_fails : (k n : ℕ) → first_failing n k ≡ None → (m : ℕ) → n ≤ m → m < n + k → f m ≡ true
   none_fails zero n e m low high = absurd (omega (arith, low, high))
   none_fails (suc k) n e m low high = go (f n) refl (none_fails k (n + 1))
     where
-      go : (b : Bool) → f n ≡ b → (first_failing f (n + 1) k ≡ None → (i : ℕ) → n + 1 ≤ i → i < n + 1 + k → f i ≡ true) → f m ≡ true
+      go : (b : Bool) → f n ≡ b → (first_failing (n + 1) k ≡ None → (i : ℕ) → n + 1 ≤ i → i < n + 1 + k → f i ≡ true) → f m ≡ true
       go true yes-here later = elim (cases_lt n m) [
         | inl more ↦ later (rw yes-here at e) m (omega (arith, more)) (omega (arith, high))
         | inr same ↦ let here : m ≡ n = omega (arith, low, same) in rw here yes-here
@@ -100,12 +104,11 @@ module _ (f : ℕ → Bool) where
           let z : ◌≡◌ {A = Option ℕ} (Some n) None = rw no-here at e in
           absurd (let y : ◌≡◌ {A = ℕ} 0 1 = cc in omega arith)
 
-  first_fails : (k n i : ℕ) → first_failing f n k ≡ Some i → ((m : ℕ) → n ≤ m → m < i → f m ≡ true) × (f i ≡ false) × (i < n + k)
-  unfolding first_failing
+  first_fails : (k n i : ℕ) → first_failing n k ≡ Some i → ((m : ℕ) → n ≤ m → m < i → f m ≡ true) × (f i ≡ false) × (i < n + k)
   first_fails zero n i e = absurd (let y : ◌≡◌ {A = ℕ} 0 1 = cc in omega arith)
   first_fails (suc k) n i e = go (f n) refl (first_fails k (n + 1) i)
     where
-      go : (b : Bool) → f n ≡ b → (first_failing f (n + 1) k ≡ Some i → ((m : ℕ) → n + 1 ≤ m → m < i → f m ≡ true) × (f i ≡ false) × (i < n + 1 + k)) →
+      go : (b : Bool) → f n ≡ b → (first_failing (n + 1) k ≡ Some i → ((m : ℕ) → n + 1 ≤ m → m < i → f m ≡ true) × (f i ≡ false) × (i < n + 1 + k)) →
           ((m : ℕ) → n ≤ m → m < i → f m ≡ true) × (f i ≡ false) × (i < n + suc k)
       go true yes-here later =
           let w = later (rw yes-here at e) in (
@@ -161,7 +164,7 @@ module _ (p : List Node) where
   pub tells_first_unsound : Told p (first_unsound p)
   tells_first_unsound = go (first_unsound p) refl
     where
-      first : (i : ℕ) → first_failing (proper p) 0 (asked p) ≡ Some i → Told p (Some i)
+      first : (i : ℕ) → first_unsound p ≡ Some i → Told p (Some i)
       first zero e =
           let w = first_fails (proper p) (asked p) 0 0 e in
           let bad : ¬ (SoundAt p 0) = λ s. false≢true (sym w.1 ∙ at-proper p (s.1 (omega arith)) 0 s) in
@@ -172,12 +175,12 @@ module _ (p : List Node) where
           let bad : ¬ (SoundAt p (suc i)) = λ s. false≢true (sym w.1 ∙ at-proper p zeroth (suc i) s) in
           (λ m h. proper-at p zeroth m (w.0 m (omega arith) h), bad, λ sound. bad (sound_at sound (suc i) (asked_which (suc i) (omega (arith, w.2)) (sound_long sound))))
 
-      none : first_failing (proper p) 0 (asked p) ≡ None → Sound p
+      none : first_unsound p ≡ None → Sound p
       none e =
           let w = none_fails (proper p) (asked p) 0 e in
           let zeroth = begins-proper (w 0 (omega arith) (omega (arith, asked_all.1))) in
           sound_from (λ n h. proper-at p zeroth n (w n (omega arith) (omega (arith, h))))
 
-      go : (o : Option ℕ) → first_failing (proper p) 0 (asked p) ≡ o → Told p o
+      go : (o : Option ℕ) → first_unsound p ≡ o → Told p o
       go (Some i) e = first i e
       go None e = none e

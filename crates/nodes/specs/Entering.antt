@@ -20,7 +20,7 @@ use Rattle.refusals.specs.declared.Refusal.{Refusal}
 use Rattle.nodes.specs.declared.node.Node.{Node}
 use Rattle.nodes.specs.declared.node.NodeKind.TheVariants as Kind
 use Rattle.nodes.specs.declared.form.Form.{Form}
-use Rattle.nodes.specs.declared.form.Join.{Join}
+use Rattle.nodes.specs.declared.merging.Join.{Join}
 use Rattle.nodes.specs.Records.{same_node, none_node, empty_node, any_node}
 use Rattle.nodes.specs.Reading.{form_at, nullable_at}
 

@@ -2,7 +2,6 @@ pub mod Records
 pub mod Reading
 pub mod Entering
 pub mod Merging
-pub mod Undoing
 pub mod Pools
 pub mod Deriving
 pub mod Soundness

@@ -9,7 +9,7 @@
 -- Assumes nothing.
 use Rattle.std.specs.Prelude.{ℕ, suc, ◌+◌, Bool, cond, not, ◌&&◌, List, [], is_some, Some, None, Option, ◌==◌, nat_lt}
 use Rattle.nodes.specs.declared.node.Node.{Node}
-use Rattle.nodes.specs.declared.form.Join.{Join}
+use Rattle.nodes.specs.declared.merging.Join.{Join}
 use Rattle.nodes.specs.declared.merging.Next.{Next}
 use Rattle.nodes.specs.Reading.{form_at}
 use Rattle.nodes.specs.Entering.{joints, members}

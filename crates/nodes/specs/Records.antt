@@ -1,12 +1,18 @@
 -- The records of nodes.
 --   kind_number k    the number of a kind
+--   KindNumbered n r   r is the kind with the number n, or says that no kind has it
+--   same_kind, same_flag   what `==` says of two kinds, and of two flags
 --   same_node x y    x and y agree in every field
 --   none_node, empty_node, any_node, all_node   the records of the nodes 0 to 3: none, empty, any, and not of 0
 --   first_nodes      these four, in their order
 -- Assumes nothing.
-use Rattle.std.specs.Prelude.{ℕ, Bool, true, false, cond, not, ◌&&◌, List, [], ◌∷◌, ◌==◌}
+use Rattle.std.specs.Prelude.{◌≡◌, ℕ, ◌<◌, Result, MatchResult, Bool, true, false, ◌&&◌, List, [], ◌∷◌, ◌==◌}
+use denote.Enum.Bare.{sameb}
+use Rattle.std.proofs.Math.Bool.{beq}
+use Rattle.nodes.specs.contracts.node.NodeKind.{the_type}
 use Rattle.nodes.specs.declared.node.Node.{Node}
 use Rattle.nodes.specs.declared.node.NodeKind.{NodeKind}
+use Rattle.nodes.specs.declared.node.UnknownKind.{UnknownKind}
 use Rattle.nodes.specs.declared.node.NodeKind.TheVariants.{None, Empty, Any, Atom, Sequence, Or, And, Star, Not}
 
 abbrev pub kind_number : NodeKind → ℕ
@@ -20,11 +26,17 @@ kind_number And = 6
 kind_number Star = 7
 kind_number Not = 8
 
+abbrev pub KindNumbered : ℕ → Result NodeKind UnknownKind → Type 0
+KindNumbered n r = MatchResult r (λ k. kind_number k ≡ n) (λ e. (e.0 ≡ n) × (8 < n))
+
+abbrev pub same_kind : NodeKind → NodeKind → Bool
+same_kind k l = sameb the_type k l
+
 abbrev pub same_flag : Bool → Bool → Bool
-same_flag a b = cond a b (not b)
+same_flag a b = beq a b
 
 abbrev pub same_node : Node → Node → Bool
-same_node x y = kind_number x.kind == kind_number y.kind && (x.left == y.left && (x.right == y.right && same_flag x.nullable y.nullable))
+same_node x y = same_kind x.kind y.kind && (x.left == y.left && (x.right == y.right && same_flag x.nullable y.nullable))
 
 abbrev pub none_node : Node
 none_node = record { kind = None; left = 0; right = 0; nullable = false }

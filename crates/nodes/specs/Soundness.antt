@@ -2,14 +2,15 @@
 --   flag_at p n      the flag of the record n
 --   sound_by p n k l r e   a later node n with the kind k, the fields l and r and the flag e is sound
 --   proper p n       node n is there and sound: the one of the nodes 0 to 3, or a sound later one
---   first_failing f n k    the first of the k numbers from n on at which f is false
---   first_unsound p  the first unsound node of p
+--   asked p          how many nodes are asked about: those there are, and at least the nodes 0 to 3
+--   first_unsound p  the first of these that is not proper
 --   Below n f        f is a form of a later node n: its parts are smaller than n, its atom is below 32
 --   SoundAt p n      node n is there, and is the one of the nodes 0 to 3, or later the record of a form below it
 --   Sound p          the nodes 0 to 3 stand first, and each later record is that of a form below it
 --   Told p o         what o says of p: nothing unsound, or the first unsound node
 -- Assumes nothing.
-use Rattle.std.specs.Prelude.{◌≡◌, ℕ, zero, suc, ◌+◌, ◌<◌, ◌≤◌, Bool, false, cond, not, ◌&&◌, ◌||◌, List, ◌++◌, length, get_or, Some, None, Option, ◌==◌, nat_lt, slice_index_or}
+use Rattle.std.specs.Prelude.{◌≡◌, ℕ, ◌<◌, ◌≤◌, Bool, false, cond, not, ◌&&◌, ◌||◌, List, ◌++◌, length, get_or, Some, None, Option, ◌==◌, nat_lt, slice_index_or}
+use Rattle.std.specs.List.{find, range_with_len}
 use Rattle.nodes.specs.declared.node.Node.{Node}
 use Rattle.nodes.specs.declared.node.NodeKind.{NodeKind}
 use Rattle.nodes.specs.declared.node.NodeKind.TheVariants as Kind
@@ -37,16 +38,11 @@ sound_as p n x = cond (nat_lt n 4) (same_node x (slice_index_or first_nodes n no
 abbrev pub proper : List Node → ℕ → Bool
 proper p n = nat_lt n (length p) && sound_as p n (slice_index_or p n none_node)
 
-unfoldable pub first_failing : (ℕ → Bool) → ℕ → ℕ → Option ℕ
-first_failing f n zero = None
-first_failing f n (suc k) = cond (f n) (first_failing f (n + 1) k) (Some n)
-
--- How many nodes are asked about: those there are, and at least the nodes 0 to 3.
 abbrev pub asked : List Node → ℕ
 asked p = cond (nat_lt (length p) 4) 4 (length p)
 
 abbrev pub first_unsound : List Node → Option ℕ
-first_unsound p = first_failing (proper p) 0 (asked p)
+first_unsound p = find (λ n. not (proper p n)) (range_with_len 0 (asked p))
 
 abbrev pub Below : ℕ → Form → Type 0
 Below n Form.None = ⊥

@@ -1,12 +1,11 @@
 //! Entering a form: the rules by which forms that are seen to mean the same come to one node.
-ghost use Rattle.std.specs.Prelude.{◌≡◌, ◌||◌, ◌==◌};
-ghost use Rattle.nodes.specs.Entering.{Out, entered, is_star};
+ghost use Rattle.std.specs.Prelude.{◌≡◌};
+ghost use Rattle.nodes.specs.Entering.{Out, entered};
 ghost use Rattle.nodes.specs.Pools.{pool_of};
 ghost use Rattle.nodes.specs.Promises.{EnteringMeans};
-ghost use Rattle.nodes.specs.Undoing.{undone};
 
-use crate::form::{Form, Join};
-use crate::merging::merge_members;
+use crate::form::Form;
+use crate::merging::Join;
 use crate::node::{ALL, ANY, EMPTY, NONE};
 use crate::pool::{Pool, form_at};
 use crate::recording::keep;
@@ -43,91 +42,52 @@ fn enter_sequence(pool: &mut Pool, left: u16, right: u16) -> Result<u16, Refusal
     ensures whole { ◌≡◌ {A = Out} (result, pool_of pool.new) (entered (Form.Sequence left right) (pool_of pool.old)) }
     ensures lent { pool.new.items.ghost_name ≡ pool.old.items.ghost_name }
 {
-    if one_is(left, right, NONE) {
-        return Ok(NONE);
+    match (left, right) {
+        (NONE, _) | (_, NONE) => Ok(NONE),
+        (EMPTY, other) | (other, EMPTY) => Ok(other),
+        _ => keep(pool, Form::Sequence(left, right)),
     }
-    if left == EMPTY {
-        return Ok(right);
-    }
-    if right == EMPTY {
-        return Ok(left);
-    }
-    keep(pool, Form::Sequence(left, right))
 }
 
 fn enter_or(pool: &mut Pool, left: u16, right: u16) -> Result<u16, Refusal>
     ensures whole { ◌≡◌ {A = Out} (result, pool_of pool.new) (entered (Form.Or left right) (pool_of pool.old)) }
     ensures lent { pool.new.items.ghost_name ≡ pool.old.items.ghost_name }
 {
-    if left == NONE {
-        return Ok(right);
+    match (left, right) {
+        (NONE, other) | (other, NONE) => Ok(other),
+        (ALL, _) | (_, ALL) => Ok(ALL),
+        _ => Join::Or.merge(pool, left, right),
     }
-    if right == NONE {
-        return Ok(left);
-    }
-    if one_is(left, right, ALL) {
-        return Ok(ALL);
-    }
-    merge_members(pool, Join::Or, left, right)
 }
 
 fn enter_and(pool: &mut Pool, left: u16, right: u16) -> Result<u16, Refusal>
     ensures whole { ◌≡◌ {A = Out} (result, pool_of pool.new) (entered (Form.And left right) (pool_of pool.old)) }
     ensures lent { pool.new.items.ghost_name ≡ pool.old.items.ghost_name }
 {
-    if left == ALL {
-        return Ok(right);
+    match (left, right) {
+        (ALL, other) | (other, ALL) => Ok(other),
+        (NONE, _) | (_, NONE) => Ok(NONE),
+        _ => Join::And.merge(pool, left, right),
     }
-    if right == ALL {
-        return Ok(left);
-    }
-    if one_is(left, right, NONE) {
-        return Ok(NONE);
-    }
-    merge_members(pool, Join::And, left, right)
 }
 
 fn enter_star(pool: &mut Pool, part: u16) -> Result<u16, Refusal>
     ensures whole { ◌≡◌ {A = Out} (result, pool_of pool.new) (entered (Form.Star part) (pool_of pool.old)) }
     ensures lent { pool.new.items.ghost_name ≡ pool.old.items.ghost_name }
 {
-    if part < ANY {
-        return Ok(EMPTY);
+    match part {
+        NONE | EMPTY => Ok(EMPTY),
+        _ if matches!(form_at(pool, part), Form::Star(_)) => Ok(part),
+        _ => keep(pool, Form::Star(part)),
     }
-    if is_star(form_at(pool, part)) {
-        return Ok(part);
-    }
-    keep(pool, Form::Star(part))
 }
 
 fn enter_not(pool: &mut Pool, part: u16) -> Result<u16, Refusal>
     ensures whole { ◌≡◌ {A = Out} (result, pool_of pool.new) (entered (Form.Not part) (pool_of pool.old)) }
     ensures lent { pool.new.items.ghost_name ≡ pool.old.items.ghost_name }
 {
-    match undo(form_at(pool, part)) {
-        Some(inner) => Ok(inner),
-        None => keep(pool, Form::Not(part)),
-    }
-}
-
-fn one_is(left: u16, right: u16, number: u16) -> bool
-    ensures { result ≡ (left == number || right == number) }
-{
-    (left == number) | (right == number)
-}
-
-fn is_star(form: Form) -> bool
-    ensures { result ≡ is_star form }
-{
-    matches!(form, Form::Star(_))
-}
-
-/// The part of a not.
-fn undo(form: Form) -> Option<u16>
-    ensures { result ≡ undone form }
-{
-    match form {
-        Form::Not(part) => Some(part),
-        _ => None,
+    match form_at(pool, part) {
+        Form::Not(inner) => Ok(inner),
+        _ => keep(pool, Form::Not(part)),
     }
 }

@@ -18,29 +18,24 @@ pub enum Form {
     Not(u16),
 }
 
-/// The two kinds whose members are merged.
-#[derive(Clone, Copy)]
-pub enum Join {
-    Or,
-    And,
-}
-
-/// The form of a node with a number, by its record.
-pub(crate) fn form_of(node: Node, number: u16) -> Form
-    ensures { result ≡ form_by node.kind number node.left node.right }
-{
-    let left = part_of(number, node.left);
-    let right = part_of(number, node.right);
-    match node.kind {
-        NodeKind::None => Form::None,
-        NodeKind::Empty => Form::Empty,
-        NodeKind::Any => Form::Any,
-        NodeKind::Atom => Form::Atom(node.left),
-        NodeKind::Sequence => Form::Sequence(left, right),
-        NodeKind::Or => Form::Or(left, right),
-        NodeKind::And => Form::And(left, right),
-        NodeKind::Star => Form::Star(left),
-        NodeKind::Not => Form::Not(left),
+impl Node {
+    /// What the record of the node with a number is read as.
+    pub(crate) fn form(self, number: u16) -> Form
+        ensures { result ≡ form_by self.kind number self.left self.right }
+    {
+        let left = part_of(number, self.left);
+        let right = part_of(number, self.right);
+        match self.kind {
+            NodeKind::None => Form::None,
+            NodeKind::Empty => Form::Empty,
+            NodeKind::Any => Form::Any,
+            NodeKind::Atom => Form::Atom(self.left),
+            NodeKind::Sequence => Form::Sequence(left, right),
+            NodeKind::Or => Form::Or(left, right),
+            NodeKind::And => Form::And(left, right),
+            NodeKind::Star => Form::Star(left),
+            NodeKind::Not => Form::Not(left),
+        }
     }
 }
 

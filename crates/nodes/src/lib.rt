@@ -11,6 +11,6 @@ mod sound;
 
 pub use entering::enter;
 pub use form::Form;
-pub use node::{ALL, ANY, EMPTY, NONE, Node, NodeKind};
+pub use node::{ALL, ANY, EMPTY, FIRST_NODES, NONE, Node, NodeKind, UnknownKind};
 pub use pool::{MOST_NODES, Pool, form_at, nullable_at};
 pub use sound::first_unsound;

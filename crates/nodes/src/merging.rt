@@ -4,10 +4,18 @@ ghost use Rattle.nodes.specs.Entering.{Out, joined, joints, merge, chained, merg
 ghost use Rattle.nodes.specs.Merging.{members_of, split_of, first_of, picked_of, is_last};
 ghost use Rattle.nodes.specs.Pools.{pool_of};
 
-use crate::form::{Form, Join};
+use crate::form::Form;
 use crate::pool::{Pool, form_at};
 use crate::recording::keep;
 use refusals::Refusal;
+use std::cmp::Ordering;
+
+/// The two kinds whose members are merged.
+#[derive(Clone, Copy)]
+pub(crate) enum Join {
+    Or,
+    And,
+}
 
 /// The next of the merged members, and what is left of the members of either side: the node whose members they are.
 #[derive(Clone, Copy)]
@@ -17,78 +25,98 @@ pub(crate) struct Next {
     pub right: Option<u16>,
 }
 
-/// The node whose members are those of two nodes.
-pub(crate) fn merge_members(
-    pool: &mut Pool,
-    join: Join,
-    left: u16,
-    right: u16,
-) -> Result<u16, Refusal>
-    ensures whole { ◌≡◌ {A = Out} (result, pool_of pool.new) (merged join left right (pool_of pool.old)) }
-    ensures lent { pool.new.items.ghost_name ≡ pool.old.items.ghost_name }
-{
-    merge_ahead(pool, join, Some(left), Some(right))
-}
-
-/// The members are met on the way down, before anything is entered; the nodes are entered from the last member on.
-fn merge_ahead(
-    pool: &mut Pool,
-    join: Join,
-    left: Option<u16>,
-    right: Option<u16>,
-) -> Result<u16, Refusal>
-    ensures whole { ◌≡◌ {A = Out} (result, pool_of pool.new) (chained join (merge (members_of join (pool_of pool.old).used left) (members_of join (pool_of pool.old).used right)) (pool_of pool.old)) }
-    ensures lent { pool.new.items.ghost_name ≡ pool.old.items.ghost_name }
-{
-    let next = pick(pool, join, left, right);
-    if is_last(next) {
-        return Ok(next.member);
-    }
-    let rest = merge_ahead(pool, join, next.left, next.right)?;
-    keep(pool, join_of(join, next.member, rest))
-}
-
-fn is_last(next: Next) -> bool
-    ensures { result ≡ is_last next }
-{
-    next.left.is_none() & next.right.is_none()
-}
-
-fn join_of(join: Join, left: u16, right: u16) -> Form
-    ensures { result ≡ joined join left right }
-{
-    match join {
-        Join::Or => Form::Or(left, right),
-        Join::And => Form::And(left, right),
+impl Next {
+    fn is_last(self) -> bool
+        ensures { result ≡ is_last self }
+    {
+        self.left.is_none() && self.right.is_none()
     }
 }
 
-fn pick(pool: &Pool, join: Join, left: Option<u16>, right: Option<u16>) -> Next
-    ensures { result ≡ picked_of join (pool_of pool.now).used left right }
-{
-    match (left, right) {
-        (None, None) => Next {
-            member: 0,
-            left: None,
-            right: None,
-        },
-        (Some(node), None) => {
-            let (member, rest) = split(pool, join, node);
-            Next {
-                member,
-                left: rest,
-                right: None,
-            }
+impl Join {
+    /// The node whose members are those of two nodes.
+    pub(crate) fn merge(self, pool: &mut Pool, left: u16, right: u16) -> Result<u16, Refusal>
+        ensures whole { ◌≡◌ {A = Out} (result, pool_of pool.new) (merged self left right (pool_of pool.old)) }
+        ensures lent { pool.new.items.ghost_name ≡ pool.old.items.ghost_name }
+    {
+        self.merge_ahead(pool, Some(left), Some(right))
+    }
+
+    /// The members are met on the way down, before anything is entered; the nodes are entered from the last member on.
+    fn merge_ahead(
+        self,
+        pool: &mut Pool,
+        left: Option<u16>,
+        right: Option<u16>,
+    ) -> Result<u16, Refusal>
+        ensures whole { ◌≡◌ {A = Out} (result, pool_of pool.new) (chained self (merge (members_of self (pool_of pool.old).used left) (members_of self (pool_of pool.old).used right)) (pool_of pool.old)) }
+        ensures lent { pool.new.items.ghost_name ≡ pool.old.items.ghost_name }
+    {
+        let next = self.pick(pool, left, right);
+        if next.is_last() {
+            return Ok(next.member);
         }
-        (None, Some(node)) => {
-            let (member, rest) = split(pool, join, node);
-            Next {
-                member,
+        let rest = self.merge_ahead(pool, next.left, next.right)?;
+        keep(pool, self.form(next.member, rest))
+    }
+
+    fn pick(self, pool: &Pool, left: Option<u16>, right: Option<u16>) -> Next
+        ensures { result ≡ picked_of self (pool_of pool.now).used left right }
+    {
+        match (left, right) {
+            (None, None) => Next {
+                member: 0,
                 left: None,
-                right: rest,
+                right: None,
+            },
+            (Some(node), None) => {
+                let (member, left) = self.split(pool, node);
+                Next {
+                    member,
+                    left,
+                    right: None,
+                }
             }
+            (None, Some(node)) => {
+                let (member, right) = self.split(pool, node);
+                Next {
+                    member,
+                    left: None,
+                    right,
+                }
+            }
+            (Some(l), Some(r)) => first_of(l, self.split(pool, l), r, self.split(pool, r)),
         }
-        (Some(l), Some(r)) => first_of(l, split(pool, join, l), r, split(pool, join, r)),
+    }
+
+    /// The first member of a node, and what the others are the members of.
+    fn split(self, pool: &Pool, node: u16) -> (u16, Option<u16>)
+        ensures { result ≡ split_of self (pool_of pool.now).used node }
+    {
+        match self.parts(form_at(pool, node)) {
+            Some((member, rest)) => (member, Some(rest)),
+            None => (node, None),
+        }
+    }
+
+    fn form(self, left: u16, right: u16) -> Form
+        ensures { result ≡ joined self left right }
+    {
+        match self {
+            Join::Or => Form::Or(left, right),
+            Join::And => Form::And(left, right),
+        }
+    }
+
+    /// The parts of a form of the joined kind.
+    fn parts(self, form: Form) -> Option<(u16, u16)>
+        ensures { result ≡ joints self form }
+    {
+        match (self, form) {
+            (Join::Or, Form::Or(left, right)) => Some((left, right)),
+            (Join::And, Form::And(left, right)) => Some((left, right)),
+            _ => None,
+        }
     }
 }
 
@@ -103,43 +131,21 @@ fn first_of(
 {
     let (x, xs) = of_left;
     let (y, ys) = of_right;
-    if x < y {
-        Next {
+    match x.cmp(&y) {
+        Ordering::Less => Next {
             member: x,
             left: xs,
             right: Some(right),
-        }
-    } else if x == y {
-        Next {
+        },
+        Ordering::Equal => Next {
             member: x,
             left: xs,
             right: ys,
-        }
-    } else {
-        Next {
+        },
+        Ordering::Greater => Next {
             member: y,
             left: Some(left),
             right: ys,
-        }
-    }
-}
-
-/// The first member of a node, and what the others are the members of.
-fn split(pool: &Pool, join: Join, node: u16) -> (u16, Option<u16>)
-    ensures { result ≡ split_of join (pool_of pool.now).used node }
-{
-    match parts_of(join, form_at(pool, node)) {
-        Some((member, rest)) => (member, Some(rest)),
-        None => (node, None),
-    }
-}
-
-fn parts_of(join: Join, form: Form) -> Option<(u16, u16)>
-    ensures { result ≡ joints join form }
-{
-    match (join, form) {
-        (Join::Or, Form::Or(left, right)) => Some((left, right)),
-        (Join::And, Form::And(left, right)) => Some((left, right)),
-        _ => None,
+        },
     }
 }

@@ -1,14 +1,17 @@
 //! The record that a pool holds for each node.
 ghost use Rattle.std.specs.Prelude.{◌≡◌};
-ghost use Rattle.nodes.specs.Records.{kind_number, same_node};
+ghost use Rattle.nodes.specs.Records.{kind_number, KindNumbered};
 ghost use Rattle.nodes.specs.Sameness.{same_exact};
 
 use numbering::Same;
+use std::error::Error;
+use std::fmt;
 
 /// What a node is. The number of each kind is the one that docs/NODES.md lists.
-#[derive(Clone, Copy, PartialEq, Eq, Debug)]
+#[derive(Clone, Copy, PartialEq, Eq, Default, Debug)]
 pub enum NodeKind {
     /// No list.
+    #[default]
     None = 0,
     /// The empty list.
     Empty = 1,
@@ -34,9 +37,42 @@ impl NodeKind {
     }
 }
 
+/// A number that no kind has.
+#[derive(Clone, Copy, PartialEq, Eq, Debug)]
+pub struct UnknownKind(pub u8);
+
+impl TryFrom<u8> for NodeKind {
+    type Error = UnknownKind;
+
+    ghost try_from_gives = { KindNumbered };
+
+    fn try_from(number: u8) -> Result<NodeKind, UnknownKind> {
+        match number {
+            0 => Ok(NodeKind::None),
+            1 => Ok(NodeKind::Empty),
+            2 => Ok(NodeKind::Any),
+            3 => Ok(NodeKind::Atom),
+            4 => Ok(NodeKind::Sequence),
+            5 => Ok(NodeKind::Or),
+            6 => Ok(NodeKind::And),
+            7 => Ok(NodeKind::Star),
+            8 => Ok(NodeKind::Not),
+            _ => Err(UnknownKind(number)),
+        }
+    }
+}
+
+impl fmt::Display for UnknownKind {
+    fn fmt<W: fmt::Write>(&self, f: &mut fmt::Formatter<W>) -> fmt::Result {
+        write!(f, "no kind of node has the number {}", self.0)
+    }
+}
+
+impl Error for UnknownKind {}
+
 /// A node: its kind, the numbers of its parts (0 where the kind has none), and whether the empty list is in its
 /// language. Eight bytes; who owns the pool owns it.
-#[derive(Clone, Copy, Debug)]
+#[derive(Clone, Copy, PartialEq, Eq, Default, Debug)]
 pub struct Node {
     pub kind: NodeKind,
     pub left: u16,
@@ -44,16 +80,13 @@ pub struct Node {
     pub nullable: bool,
 }
 
-/// Nodes are the same if they agree in every field.
 impl Same for Node {
-    ghost equal = { same_node };
-
     ghost exact = { same_exact };
 
+    /// What `==` says, kind and left part first: most nodes differ there, and the derived test looks at more at once.
     fn same(self, other: Node) -> bool {
-        self.kind.number() == other.kind.number()
-            && (self.left == other.left
-                && (self.right == other.right && self.nullable == other.nullable))
+        (self.kind, self.left) == (other.kind, other.left)
+            && (self.right, self.nullable) == (other.right, other.nullable)
     }
 }
 
@@ -69,24 +102,31 @@ pub const ANY: u16 = 2;
 /// Every list.
 pub const ALL: u16 = 3;
 
-/// The record of node 0, which is also read wherever no node stands.
-pub(crate) const NONE_NODE: Node = Node {
-    kind: NodeKind::None,
-    left: 0,
-    right: 0,
-    nullable: false,
-};
-
-pub(crate) const EMPTY_NODE: Node = Node {
-    kind: NodeKind::Empty,
-    left: 0,
-    right: 0,
-    nullable: true,
-};
-
-pub(crate) const ANY_NODE: Node = Node {
-    kind: NodeKind::Any,
-    left: 0,
-    right: 0,
-    nullable: false,
-};
+/// The nodes with which every sound pool begins, in the order of their numbers. The first is also read wherever no
+/// node stands.
+pub const FIRST_NODES: [Node; 4] = [
+    Node {
+        kind: NodeKind::None,
+        left: 0,
+        right: 0,
+        nullable: false,
+    },
+    Node {
+        kind: NodeKind::Empty,
+        left: 0,
+        right: 0,
+        nullable: true,
+    },
+    Node {
+        kind: NodeKind::Any,
+        left: 0,
+        right: 0,
+        nullable: false,
+    },
+    Node {
+        kind: NodeKind::Not,
+        left: 0,
+        right: 0,
+        nullable: true,
+    },
+];

@@ -6,8 +6,8 @@ ghost use Rattle.numbering.specs.Numbering.{Out as Numbered, pages, numbered};
 ghost use Rattle.nodes.specs.Records.{same_node};
 ghost use Rattle.nodes.specs.Reading.{at, form_at, nullable_at};
 
-use crate::form::{Form, form_of};
-use crate::node::{NONE_NODE, Node};
+use crate::form::Form;
+use crate::node::Node;
 use numbering::Book;
 use refusals::{Question, Refusal};
 
@@ -21,13 +21,9 @@ pub type Pool<'a> = Book<'a, Node>;
 pub(crate) fn node_at(pool: &Pool, node: u16) -> Node
     ensures { result ≡ at (pool_of pool.now).used node }
 {
-    let place = usize::from(node);
-    if place == 0 || place >= MOST_NODES {
-        return NONE_NODE;
-    }
-    match pool.get(place) {
-        Some(found) => found,
-        None => NONE_NODE,
+    match usize::from(node) {
+        place @ 1..MOST_NODES => pool.get(place).unwrap_or_default(),
+        _ => Node::default(),
     }
 }
 
@@ -35,7 +31,7 @@ pub(crate) fn node_at(pool: &Pool, node: u16) -> Node
 pub fn form_at(pool: &Pool, node: u16) -> Form
     ensures { result ≡ form_at (pool_of pool.now).used node }
 {
-    form_of(node_at(pool, node), node)
+    node_at(pool, node).form(node)
 }
 
 /// Whether the empty list is in the language of a node.
@@ -50,9 +46,8 @@ pub(crate) fn intern(pool: &mut Pool, node: Node) -> Result<u16, Refusal>
     ensures whole { ◌≡◌ {A = Out} (result, pool_of pool.new) (interned (pool_of pool.old) node) }
     ensures lent { pool.new.items.ghost_name ≡ pool.old.items.ghost_name }
 {
-    let size = size_of(pool);
-    let count = pool.count;
-    let (found, count) = number_in(&mut pool.items[0..size], count, node);
+    let size = pool.items.len().min(MOST_NODES);
+    let (found, count) = number_in(&mut pool.items[..size], pool.count, node);
     pool.count = count;
     match found {
         Some(number) => Ok(number as u16),
@@ -70,16 +65,4 @@ fn number_in(nodes: &mut [Node], count: usize, node: Node) -> (Option<usize>, us
     };
     let found = book.number(node);
     (found, book.count)
-}
-
-/// How many nodes the pool has places for.
-fn size_of(pool: &Pool) -> usize
-    ensures size { result ≡ length (take 4096 pool.now.items.now) }
-    ensures within { result ≤ length pool.now.items.now }
-{
-    if pool.items.len() < MOST_NODES {
-        pool.items.len()
-    } else {
-        MOST_NODES
-    }
 }

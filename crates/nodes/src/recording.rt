@@ -1,11 +1,10 @@
 //! The record of a form.
-ghost use Rattle.std.specs.Prelude.{◌≡◌, ◌&&◌, ◌||◌};
+ghost use Rattle.std.specs.Prelude.{◌≡◌};
 ghost use Rattle.nodes.specs.Entering.{Out, recorded, kept};
 ghost use Rattle.nodes.specs.Pools.{pool_of};
-ghost use Rattle.nodes.specs.Reading.{nullable_at};
 
 use crate::form::Form;
-use crate::node::{ANY_NODE, EMPTY_NODE, NONE_NODE, Node, NodeKind};
+use crate::node::{Node, NodeKind};
 use crate::pool::{Pool, intern, nullable_at};
 use refusals::Refusal;
 
@@ -21,49 +20,35 @@ pub(crate) fn keep(pool: &mut Pool, form: Form) -> Result<u16, Refusal>
 fn record_of(pool: &Pool, form: Form) -> Node
     ensures { result ≡ recorded (pool_of pool.now).used form }
 {
-    match form {
-        Form::None => NONE_NODE,
-        Form::Empty => EMPTY_NODE,
-        Form::Any => ANY_NODE,
-        Form::Atom(atom) => record(NodeKind::Atom, atom, 0, false),
-        Form::Sequence(left, right) => {
-            record(
-                NodeKind::Sequence,
-                left,
-                right,
-                both_nullable(pool, left, right),
-            )
-        }
-        Form::Or(left, right) => {
-            record(NodeKind::Or, left, right, one_nullable(pool, left, right))
-        }
-        Form::And(left, right) => {
-            record(NodeKind::And, left, right, both_nullable(pool, left, right))
-        }
-        Form::Star(part) => record(NodeKind::Star, part, 0, true),
-        Form::Not(part) => record(NodeKind::Not, part, 0, !nullable_at(pool, part)),
-    }
-}
-
-fn record(kind: NodeKind, left: u16, right: u16, nullable: bool) -> Node
-    ensures { result ≡ record { kind = kind; left = left; right = right; nullable = nullable } }
-{
+    let (kind, left, right) = match form {
+        Form::None => (NodeKind::None, 0, 0),
+        Form::Empty => (NodeKind::Empty, 0, 0),
+        Form::Any => (NodeKind::Any, 0, 0),
+        Form::Atom(atom) => (NodeKind::Atom, atom, 0),
+        Form::Sequence(left, right) => (NodeKind::Sequence, left, right),
+        Form::Or(left, right) => (NodeKind::Or, left, right),
+        Form::And(left, right) => (NodeKind::And, left, right),
+        Form::Star(part) => (NodeKind::Star, part, 0),
+        Form::Not(part) => (NodeKind::Not, part, 0),
+    };
     Node {
         kind,
         left,
         right,
-        nullable,
+        nullable: is_nullable(pool, form),
     }
 }
 
-fn both_nullable(pool: &Pool, left: u16, right: u16) -> bool
-    ensures { result ≡ (nullable_at (pool_of pool.now).used left && nullable_at (pool_of pool.now).used right) }
+/// Whether the empty list is in the language of a form.
+fn is_nullable(pool: &Pool, form: Form) -> bool
+    ensures { result ≡ (recorded (pool_of pool.now).used form).nullable }
 {
-    nullable_at(pool, left) & nullable_at(pool, right)
-}
-
-fn one_nullable(pool: &Pool, left: u16, right: u16) -> bool
-    ensures { result ≡ (nullable_at (pool_of pool.now).used left || nullable_at (pool_of pool.now).used right) }
-{
-    nullable_at(pool, left) | nullable_at(pool, right)
+    let nullable = |node: u16| nullable_at(pool, node);
+    match form {
+        Form::None | Form::Any | Form::Atom(_) => false,
+        Form::Empty | Form::Star(_) => true,
+        Form::Sequence(left, right) | Form::And(left, right) => nullable(left) && nullable(right),
+        Form::Or(left, right) => nullable(left) || nullable(right),
+        Form::Not(part) => !nullable(part),
+    }
 }

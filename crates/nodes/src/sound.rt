@@ -3,24 +3,10 @@ ghost use Rattle.std.specs.Prelude.{◌≡◌, not, ◌&&◌, ◌||◌, ◌==◌
 ghost use Rattle.nodes.specs.Records.{same_flag};
 ghost use Rattle.nodes.specs.Soundness.{flag_at, sound_by, sound_as, proper, asked, first_unsound, Told};
 
-use crate::node::{ANY_NODE, EMPTY_NODE, NONE_NODE, Node, NodeKind};
-use numbering::Same;
+use crate::node::{FIRST_NODES, Node, NodeKind};
 
 /// The atoms that a rule can have.
 const MOST_ATOMS: u16 = 32;
-
-/// The nodes with which every sound pool begins.
-static FIRST_NODES: [Node; 4] = [
-    NONE_NODE,
-    EMPTY_NODE,
-    ANY_NODE,
-    Node {
-        kind: NodeKind::Not,
-        left: 0,
-        right: 0,
-        nullable: true,
-    },
-];
 
 /// The first node that is not sound; of the nodes 0 to 3 also one that is missing.
 pub fn first_unsound(nodes: &[Node]) -> Option<usize>
@@ -33,84 +19,68 @@ pub fn first_unsound(nodes: &[Node]) -> Option<usize>
 fn find_unsound(nodes: &[Node]) -> Option<usize>
     ensures { result ≡ first_unsound nodes.now }
 {
-    let end = asked_of(nodes);
-    for number in 0..end {
-        if !is_proper(nodes, number) {
-            return Some(number);
-        }
-    }
-    None
-}
-
-fn asked_of(nodes: &[Node]) -> usize
-    ensures { result ≡ asked nodes.now }
-{
-    if nodes.len() < FIRST_NODES.len() {
-        FIRST_NODES.len()
-    } else {
-        nodes.len()
-    }
+    let asked = nodes.len().max(FIRST_NODES.len());
+    (0..asked).find(|number| !is_proper(nodes, *number))
 }
 
 fn is_proper(nodes: &[Node], number: usize) -> bool
     ensures { result ≡ proper nodes.now number }
 {
-    if number >= nodes.len() {
-        return false;
+    nodes
+        .get(number)
+        .is_some_and(|node| node.is_sound(number, nodes))
+}
+
+impl Node {
+    fn is_sound(self, number: usize, nodes: &[Node]) -> bool
+        ensures { result ≡ sound_as nodes.now number self }
+    {
+        match FIRST_NODES.get(number) {
+            Some(first) => self == *first,
+            None => self.is_sound_later(number, nodes),
+        }
     }
-    is_sound(nodes, number, nodes[number])
-}
 
-fn is_sound(nodes: &[Node], number: usize, node: Node) -> bool
-    ensures { result ≡ sound_as nodes.now number node }
-{
-    if number < FIRST_NODES.len() {
-        return node.same(FIRST_NODES[number]);
+    /// A later node is sound if its parts stand before it and its flag is the one that theirs give.
+    fn is_sound_later(self, number: usize, nodes: &[Node]) -> bool
+        ensures { result ≡ sound_by nodes.now number self.kind self.left self.right self.nullable }
+    {
+        let left = flag_at(nodes, self.left);
+        let right = flag_at(nodes, self.right);
+        match self.kind {
+            NodeKind::None | NodeKind::Empty | NodeKind::Any => false,
+            NodeKind::Atom => self.is_sound_atom(),
+            NodeKind::Sequence | NodeKind::And => self.is_sound_pair(number, left && right),
+            NodeKind::Or => self.is_sound_pair(number, left || right),
+            NodeKind::Star => self.is_sound_single(number, true),
+            NodeKind::Not => self.is_sound_single(number, !left),
+        }
     }
-    is_sound_later(nodes, number, node)
-}
 
-/// A later node is sound if its parts stand before it and its flag is the one that theirs give.
-fn is_sound_later(nodes: &[Node], number: usize, node: Node) -> bool
-    ensures { result ≡ sound_by nodes.now number node.kind node.left node.right node.nullable }
-{
-    let left = flag_at(nodes, node.left);
-    let right = flag_at(nodes, node.right);
-    match node.kind {
-        NodeKind::None | NodeKind::Empty | NodeKind::Any => false,
-        NodeKind::Atom => is_sound_atom(node),
-        NodeKind::Sequence | NodeKind::And => is_sound_pair(number, node, left & right),
-        NodeKind::Or => is_sound_pair(number, node, left | right),
-        NodeKind::Star => is_sound_single(number, node, true),
-        NodeKind::Not => is_sound_single(number, node, !left),
+    fn is_sound_atom(self) -> bool
+        ensures { result ≡ (nat_lt self.left 32 && (self.right == 0 && not self.nullable)) }
+    {
+        self.left < MOST_ATOMS && self.right == 0 && !self.nullable
+    }
+
+    fn is_sound_pair(self, number: usize, flag: bool) -> bool
+        ensures { result ≡ (nat_lt self.left number && (nat_lt self.right number && same_flag self.nullable flag)) }
+    {
+        usize::from(self.left) < number && usize::from(self.right) < number && self.nullable == flag
+    }
+
+    fn is_sound_single(self, number: usize, flag: bool) -> bool
+        ensures { result ≡ (nat_lt self.left number && (self.right == 0 && same_flag self.nullable flag)) }
+    {
+        usize::from(self.left) < number && self.right == 0 && self.nullable == flag
     }
 }
 
-fn is_sound_atom(node: Node) -> bool
-    ensures { result ≡ (nat_lt node.left 32 && (node.right == 0 && not node.nullable)) }
-{
-    (node.left < MOST_ATOMS) & ((node.right == 0) & !node.nullable)
-}
-
-fn is_sound_pair(number: usize, node: Node, flag: bool) -> bool
-    ensures { result ≡ (nat_lt node.left number && (nat_lt node.right number && same_flag node.nullable flag)) }
-{
-    (usize::from(node.left) < number)
-        & ((usize::from(node.right) < number) & (node.nullable == flag))
-}
-
-fn is_sound_single(number: usize, node: Node, flag: bool) -> bool
-    ensures { result ≡ (nat_lt node.left number && (node.right == 0 && same_flag node.nullable flag)) }
-{
-    (usize::from(node.left) < number) & ((node.right == 0) & (node.nullable == flag))
-}
-
+/// The flag of a record; that of one that is not there is not set.
 fn flag_at(nodes: &[Node], node: u16) -> bool
     ensures { result ≡ flag_at nodes.now node }
 {
-    let place = usize::from(node);
-    if place >= nodes.len() {
-        return false;
-    }
-    nodes[place].nullable
+    nodes
+        .get(usize::from(node))
+        .is_some_and(|node| node.nullable)
 }

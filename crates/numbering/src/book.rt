@@ -1,8 +1,8 @@
 //! The numbering book.
-ghost use Rattle.std.specs.Prelude.{◌≡◌, ◌+◌, ◌<◌, length, take, nat_le, nat_lt, slice_set};
+ghost use Rattle.std.specs.Prelude.{◌≡◌, take};
 ghost use Rattle.std.specs.List.{slice_get};
 ghost use Rattle.numbering.specs.Finding.{first_equal};
-ghost use Rattle.numbering.specs.Numbering.{Out, Means, pages, numbered};
+ghost use Rattle.numbering.specs.Numbering.{Out, Means, pages, placed, numbered};
 
 use crate::same::Same;
 
@@ -18,8 +18,8 @@ pub struct Book<'a, T> {
 impl<'a, T: Same> Book<'a, T> {
     /// The number of a thing, which gets the next one if it is met for the first time and a place is left.
     pub fn number(&mut self, thing: T) -> Option<usize>
-        ensures whole { ◌≡◌ {A = Out T} (result, pages self.new.items.now self.new.count) (numbered T.Same.equal (pages self.old.items.now self.old.count) thing) }
-        ensures means { Means T.Same.equal thing (pages self.old.items.now self.old.count) result (pages self.new.items.now self.new.count) }
+        ensures whole { ◌≡◌ {A = Out T} (result, pages self.new.items.now self.new.count) (numbered T.eq (pages self.old.items.now self.old.count) thing) }
+        ensures means { Means T.eq thing (pages self.old.items.now self.old.count) result (pages self.new.items.now self.new.count) }
         ensures lent { self.new.items.ghost_name ≡ self.old.items.ghost_name }
     {
         self.enter(thing)
@@ -27,93 +27,47 @@ impl<'a, T: Same> Book<'a, T> {
 
     /// The steps of `number`; that one says what they come to.
     fn enter(&mut self, thing: T) -> Option<usize>
-        ensures whole { ◌≡◌ {A = Out T} (result, pages self.new.items.now self.new.count) (numbered T.Same.equal (pages self.old.items.now self.old.count) thing) }
+        ensures whole { ◌≡◌ {A = Out T} (result, pages self.new.items.now self.new.count) (numbered T.eq (pages self.old.items.now self.old.count) thing) }
         ensures lent { self.new.items.ghost_name ≡ self.old.items.ghost_name }
     {
-        let found = self.place_of(thing);
-        if found.is_some() {
-            return found;
+        match find(self.in_use(), thing) {
+            Some(number) => Some(number),
+            None => self.append(thing),
         }
-        if self.is_full() {
+    }
+
+    /// Puts a thing into the next place, if one is left: the place is its number.
+    fn append(&mut self, thing: T) -> Option<usize>
+        ensures whole { ◌≡◌ {A = Out T} (result, pages self.new.items.now self.new.count) (placed thing (pages self.old.items.now self.old.count) (pages self.old.items.now self.old.count).past) }
+        ensures lent { self.new.items.ghost_name ≡ self.old.items.ghost_name }
+    {
+        let next = self.count;
+        if next >= self.items.len() {
             return None;
         }
-        let next = self.count;
-        self.put(thing);
-        Some(next)
-    }
-
-    fn is_full(&self) -> bool
-        ensures { result ≡ nat_le (length self.now.items.now) self.now.count }
-    {
-        self.count >= self.items.len()
-    }
-
-    /// Puts a thing into the next place.
-    fn put(&mut self, thing: T)
-        requires { self.old.count < length self.old.items.now }
-        ensures written { self.new.items.now ≡ slice_set self.old.items.now self.old.count thing }
-        ensures counted { self.new.count ≡ self.old.count + 1 }
-        ensures lent { self.new.items.ghost_name ≡ self.old.items.ghost_name }
-    {
-        let next = self.count;
         self.items[next] = thing;
-        self.count = next + 1;
-    }
-
-    /// The number of a thing in use.
-    fn place_of(&self, thing: T) -> Option<usize>
-        ensures { result ≡ first_equal T.Same.equal (take self.now.count self.now.items.now) thing }
-    {
-        find_among(self.items, self.count, thing)
+        self.count += 1;
+        Some(next)
     }
 
     /// The thing with a number, if there is one.
     pub fn get(&self, number: usize) -> Option<T>
         ensures { result ≡ slice_get (take self.now.count self.now.items.now) number }
     {
-        if !self.is_number(number) {
-            return None;
-        }
-        at(self.items, number)
+        self.in_use().get(number).copied()
     }
 
-    fn is_number(&self, number: usize) -> bool
-        ensures { result ≡ nat_lt number self.now.count }
+    /// The things that have numbers. A count past the places there are means that all are in use.
+    fn in_use(&self) -> &[T]
+        ensures { result.now ≡ take self.now.count self.now.items.now }
     {
-        number < self.count
+        &self.items[..self.count.min(self.items.len())]
     }
 }
 
 /// The place of the first of the items that is the thing.
 pub fn find<T: Same>(items: &[T], thing: T) -> Option<usize>
-    ensures { result ≡ first_equal T.Same.equal items.now thing }
+    ensures { result ≡ first_equal T.eq items.now thing }
 {
-    find_among(items, items.len(), thing)
-}
-
-/// The same among the first `count` items.
-fn find_among<T: Same>(items: &[T], count: usize, thing: T) -> Option<usize>
-    ensures { result ≡ first_equal T.Same.equal (take count items.now) thing }
-{
-    let end = if count < items.len() {
-        count
-    } else {
-        items.len()
-    };
-    for place in 0..end {
-        if items[place].same(thing) {
-            return Some(place);
-        }
-    }
-    None
-}
-
-fn at<T: Copy>(items: &[T], place: usize) -> Option<T>
-    ensures { result ≡ slice_get items.now place }
-{
-    if place < items.len() {
-        Some(items[place])
-    } else {
-        None
-    }
+    items.iter().position(|item| item.same(thing))
 }

@@ -1,3 +1,4 @@
+pub mod Signs
 pub mod Standings
 pub mod Leaves
 pub mod Turning

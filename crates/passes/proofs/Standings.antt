@@ -1,8 +1,9 @@
 -- The tokens that begin with a lexeme.
 -- Assumes nothing.
-use Rattle.std.proofs.Common.{◌≡◌, ℕ, zero, suc, ◌-◌, ◌<◌, ◌≤◌, eqb, List, length, Some, None, Err, Option, refl, ap, arith}
+use Rattle.std.proofs.Common.{◌≡◌, ℕ, zero, suc, ◌<◌, ◌≤◌, eqb, List, length, Some, None, Ok, Err, Option, refl, ap, arith}
 use Rattle.refusals.specs.Questions.{refusing}
 use Rattle.refusals.specs.declared.Question.TheVariants.{GrammarAllows, LevelsOpen}
+use Rattle.refusals.specs.declared.Refusal.{Refusal}
 use Rattle.grammar.specs.declared.token.Lexeme.{Lexeme}
 use Rattle.grammar.specs.Lexing.{onward_by}
 use Rattle.grammar.specs.Parsing.{joins, unexpected}
@@ -12,7 +13,7 @@ use Rattle.nodes.specs.Entering.{Held}
 use Rattle.passes.specs.declared.binary.Binary.{Binary}
 use Rattle.surveys.specs.declared.reader.Reader.{Reader}
 use Rattle.surveys.specs.Looking.{Stands, StandsBy, after, standing}
-use Rattle.passes.specs.Passing.{Answer, inside, joins_with, level_of, over}
+use Rattle.passes.specs.Passing.{Answer, inside, joins_with, level_of, opened, over}
 
 head_on : (f : ℕ → Lexed) (o : Option Token) (p q : ℕ) → head (onward_by f o p q) ≡ o
 head_on f None p q = refl
@@ -75,10 +76,10 @@ module _ (s : Reader) (l : Lexeme) where
   joins-standing Binary.Sequence = ap begins_some head-standing
 
 -- Opening a level.
-pub inside_none : (n : ℕ) (ts : Lexed) (h : Held) (f : ℕ → Lexed → Answer) → n ≡ 0 → inside n ts h f ≡ (Err (refusing LevelsOpen (place ts)), h)
-inside_none zero ts h f e = refl
-inside_none (suc n) ts h f e = absurd (omega arith)
+pub inside_none : (n : ℕ) (ts : Lexed) (h : Held) (f : ℕ → Lexed → Answer) (e : Refusal) → Err e ≡ opened n (place ts) → inside n ts h f ≡ (Err e, h)
+inside_none zero ts h f e is = let same : refusing LevelsOpen (place ts) ≡ e = cc in ap (λ r. (Err r, h)) same
+inside_none (suc n) ts h f e is = cc
 
-pub inside_one : (n : ℕ) (ts : Lexed) (h : Held) (f : ℕ → Lexed → Answer) → (n ≡ 0 → ⊥) → inside n ts h f ≡ over (rest ts) h (f (n - 1))
-inside_one zero ts h f e = absurd (e refl)
-inside_one (suc n) ts h f e = let same : n ≡ suc n - 1 = omega arith in ap (λ m. over (rest ts) h (f m)) same
+pub inside_one : (n : ℕ) (ts : Lexed) (h : Held) (f : ℕ → Lexed → Answer) (m p : ℕ) → Ok m ≡ opened n p → inside n ts h f ≡ over (rest ts) h (f m)
+inside_one zero ts h f m p is = cc
+inside_one (suc n) ts h f m p is = let same : n ≡ m = cc in ap (λ m. over (rest ts) h (f m)) same

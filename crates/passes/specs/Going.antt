@@ -2,9 +2,11 @@
 --   rank X              how deep a form of the level X may call before a token is taken
 --   size s l X          a bound of the depth of calls of reading a form of the level X from the lexeme l on
 --   size_on s l         the same for going on where l comes next
---   Goes s n X l h r g      reading a form of the level X from l on, with n levels left, answers r and turns the pool h
---                       into g; it takes a token at least
---   Grown s n X x h r g     the same for going on from the part x
+--   Goes step s n X l h r g    reading a form of the level X from l on, with n levels left, answers r and turns the pool h
+--                       into g, where a form is entered by step; it takes a token at least
+--   Grown step s n X x h r g   the same for going on from the part x
+--   GoesFrom step w X h r g    the same as Goes from where the walk w stands
+--   GrownFrom step w X l h r g     the same as Grown from the node l, where the walk w stands behind it
 -- Assumes nothing.
 use Rattle.std.specs.Prelude.{◌≡◌, ℕ, ◌+◌, ◌-◌, ◌*◌, ◌<◌, ◌≤◌, length, Ok, Err, Result}
 use Rattle.refusals.specs.declared.Refusal.{Refusal}
@@ -12,9 +14,10 @@ use Rattle.grammar.specs.declared.token.Lexeme.{Lexeme}
 use Rattle.grammar.specs.Grammar.{Level, alternatives, conjunctions, sequences, prefixes, starred, bases}
 use Rattle.nodes.specs.Entering.{Held}
 use Rattle.passes.specs.declared.part.Part.{Part}
+use Rattle.passes.specs.declared.walk.Walk.{Walk}
 use Rattle.surveys.specs.declared.reader.Reader.{Reader}
 use Rattle.surveys.specs.Looking.{Stands, standing}
-use Rattle.passes.specs.Passing.{Answer, answered, grow_into, names_of, read_into}
+use Rattle.passes.specs.Passing.{Answer, Step, answered, grow_into, names_of, read_into}
 
 abbrev pub rank : Level → ℕ
 rank alternatives = 5
@@ -34,11 +37,17 @@ abbrev pub Behind : Reader → ℕ → Result Part Refusal → Type 0
 Behind s p (Ok x) = Stands s.text.now x.next × (p ≤ x.next.place)
 Behind s p (Err r) = Unit {0}
 
-pub record Goes (s : Reader) (n : ℕ) (X : Level) (l : Lexeme) (h : Held) (r : Result Part Refusal) (g : Held) : Type 0 where
+pub record Goes (step : Step) (s : Reader) (n : ℕ) (X : Level) (l : Lexeme) (h : Held) (r : Result Part Refusal) (g : Held) : Type 0 where
   -- for every bound of the depth that is large enough
-  pub answer : (k : ℕ) → size s l X < k → ◌≡◌ {A = Answer} (answered s r, g) (read_into k s.pass (names_of s) n X (standing s l) h)
+  pub answer : (k : ℕ) → size s l X < k → ◌≡◌ {A = Answer} (answered s r, g) (read_into k step (names_of s) n X (standing s l) h)
   pub onward : Behind s (l.place + 1) r
 
-pub record Grown (s : Reader) (n : ℕ) (X : Level) (x : Part) (h : Held) (r : Result Part Refusal) (g : Held) : Type 0 where
-  pub answer : (k : ℕ) → size_on s x.next < k → ◌≡◌ {A = Answer} (answered s r, g) (grow_into k s.pass (names_of s) n X x.node (standing s x.next) h)
+pub record Grown (step : Step) (s : Reader) (n : ℕ) (X : Level) (x : Part) (h : Held) (r : Result Part Refusal) (g : Held) : Type 0 where
+  pub answer : (k : ℕ) → size_on s x.next < k → ◌≡◌ {A = Answer} (answered s r, g) (grow_into k step (names_of s) n X x.node (standing s x.next) h)
   pub onward : Behind s x.next.place r
+
+abbrev pub GoesFrom : Step → Walk → Level → Held → Result Part Refusal → Held → Type 0
+GoesFrom step w X h r g = Goes step w.reader.now w.levels X w.first h r g
+
+abbrev pub GrownFrom : Step → Walk → Level → ℕ → Held → Result Part Refusal → Held → Type 0
+GrownFrom step w X l h r g = Grown step w.reader.now w.levels X (record { node = l; next = w.first }) h r g

@@ -1,13 +1,13 @@
 //! The forms of two operands.
 ghost use Rattle.std.specs.Prelude.{◌≡◌};
 ghost use Rattle.grammar.specs.Sighting.{token_of};
-ghost use Rattle.surveys.specs.Looking.{Stands, standing, told};
+ghost use Rattle.surveys.specs.Looking.{Stands, told};
 ghost use Rattle.passes.specs.Passing.{LiesFrom, joining, joins_with, onset};
 
 use grammar::{Lexeme, Token};
 use nodes::Form;
 use refusals::Refusal;
-use surveys::{Reader, advance, begins, sign_of};
+use surveys::{Reader, advance, begins};
 
 /// A form of two operands, from the loosest to the tightest. Equal ones group to the left.
 #[derive(Clone, Copy)]
@@ -34,8 +34,8 @@ impl Binary {
         ensures { result ≡ joins_with self (token_of token.entry) }
     {
         match self {
-            Binary::Or => sign_of(token) == b'|',
-            Binary::And => sign_of(token) == b'&',
+            Binary::Or => matches!(token, Token::Bar),
+            Binary::And => matches!(token, Token::Ampersand),
             Binary::Sequence => begins(token),
         }
     }

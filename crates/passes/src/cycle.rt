@@ -1,181 +1,146 @@
 //! The readers of the forms, which call one another. Forms that group to the left are read by loops, so that calls nest
 //! only as deep as levels are open.
-ghost use Rattle.std.specs.Prelude.{◌≡◌, ◌==◌};
+ghost use Rattle.std.specs.Prelude.{◌≡◌};
+ghost use Rattle.grammar.specs.declared.token.Token.TheVariants.{Opening};
 ghost use Rattle.grammar.specs.Grammar.{bases, prefixes, starred};
-ghost use Rattle.grammar.specs.Sighting.{token_of};
-ghost use Rattle.grammar.specs.Tokens.{sign_of};
-ghost use Rattle.nodes.specs.Pools.{pool_of};
-ghost use Rattle.passes.specs.Going.{Goes, Grown};
-ghost use Rattle.surveys.specs.Looking.{Stands};
+ghost use Rattle.passes.specs.Going.{GoesFrom, GrownFrom};
 ghost use Rattle.passes.specs.Passing.{level_of, tighter};
 
 use crate::binary::Binary;
-use crate::entering::{leaf, put, single};
+use crate::entering::leaf;
 use crate::part::Part;
-use crate::stars::stars;
-use grammar::Lexeme;
-use nodes::{Form, Pool};
+use crate::sink::Sink;
+use crate::walk::Walk;
+use grammar::Token;
+use nodes::Form;
 use refusals::{Question, Refusal};
-use surveys::{Reader, advance, sign_of};
+use surveys::advance;
 
-/// Operands with the signs of a form of two operands between them.
-#[cycle(base_enclosed_group_grow_operand_prefix_repeated)]
-pub(crate) fn group<'t>(
-    reader: &Reader<'t>,
-    pool: &mut Pool,
-    binary: Binary,
-    levels: usize,
-    first: Lexeme<'t>,
-) -> Result<Part<'t>, Refusal>
-    requires { Stands reader.now.text.now first }
-    ensures goes { Goes reader.now levels (level_of binary) first.entry (pool_of pool.old) result (pool_of pool.new) }
-    ensures lent { pool.new.items.ghost_name ≡ pool.old.items.ghost_name }
-{
-    let left = operand(reader, pool, binary, levels, first)?;
-    grow(reader, pool, binary, levels, left)
-}
+impl<'r, 't> Walk<'r, 't> {
+    /// Operands with the signs of a form of two operands between them.
+    #[cycle(readers)]
+    pub(crate) fn group<S: Sink>(self, sink: &mut S, binary: Binary) -> Result<Part<'t>, Refusal>
+        ensures goes { GoesFrom S.step self.entry (level_of binary) (S.pool sink.old) result (S.pool sink.new) }
+        ensures lent { S.memory sink.new ≡ S.memory sink.old }
+    {
+        let left = self.operand(sink, binary)?;
+        Walk {
+            first: left.next,
+            reader: self.reader,
+            levels: self.levels,
+        }
+        .grow(sink, binary, left.node)
+    }
 
-/// Goes on from the left operand as long as others follow.
-#[cycle(base_enclosed_group_grow_operand_prefix_repeated)]
-fn grow<'t>(
-    reader: &Reader<'t>,
-    pool: &mut Pool,
-    binary: Binary,
-    levels: usize,
-    left: Part<'t>,
-) -> Result<Part<'t>, Refusal>
-    requires { Stands reader.now.text.now left.next }
-    ensures grown { Grown reader.now levels (level_of binary) left.entry (pool_of pool.old) result (pool_of pool.new) }
-    ensures lent { pool.new.items.ghost_name ≡ pool.old.items.ghost_name }
-{
-    let mut part = left;
-    while binary.joins(part.next.token) {
-        let start = binary.start(reader, part.next)?;
-        let right = operand(reader, pool, binary, levels, start)?;
-        let node = put(reader.pass, pool, binary.form(part.node, right.node))?;
-        part = Part {
-            node,
-            next: right.next,
+    /// Goes on from the left operand as long as others follow.
+    #[cycle(readers)]
+    fn grow<S: Sink>(self, sink: &mut S, binary: Binary, node: u16) -> Result<Part<'t>, Refusal>
+        ensures grown { GrownFrom S.step self.entry (level_of binary) node (S.pool sink.old) result (S.pool sink.new) }
+        ensures lent { S.memory sink.new ≡ S.memory sink.old }
+    {
+        let Walk {
+            first,
+            reader,
+            levels,
+        } = self;
+        let mut part = Part { node, next: first };
+        while binary.joins(part.next.token) {
+            let first = binary.start(reader, part.next)?;
+            let here = Walk {
+                first,
+                reader,
+                levels,
+            };
+            let right = here.operand(sink, binary)?;
+            let node = sink.put(binary.form(part.node, right.node))?;
+            part = Part { node, ..right };
+        }
+        Ok(part)
+    }
+
+    /// An operand: a form that binds tighter.
+    #[cycle(readers)]
+    fn operand<S: Sink>(self, sink: &mut S, binary: Binary) -> Result<Part<'t>, Refusal>
+        ensures goes { GoesFrom S.step self.entry (tighter binary) (S.pool sink.old) result (S.pool sink.new) }
+        ensures lent { S.memory sink.new ≡ S.memory sink.old }
+    {
+        match binary {
+            Binary::Or => self.group(sink, Binary::And),
+            Binary::And => self.group(sink, Binary::Sequence),
+            Binary::Sequence => self.prefix(sink),
+        }
+    }
+
+    /// Signs `!` and then a base with its stars.
+    #[cycle(readers)]
+    fn prefix<S: Sink>(self, sink: &mut S) -> Result<Part<'t>, Refusal>
+        ensures goes { GoesFrom S.step self.entry prefixes (S.pool sink.old) result (S.pool sink.new) }
+        ensures lent { S.memory sink.new ≡ S.memory sink.old }
+    {
+        let Token::Bang = self.first.token else {
+            return self.repeated(sink);
         };
+        let levels = self.levels_inside()?;
+        let first = advance(self.reader, self.first.after)?;
+        let part = Walk {
+            first,
+            reader: self.reader,
+            levels,
+        }
+        .prefix(sink)?;
+        let node = sink.put(Form::Not(part.node))?;
+        Ok(Part { node, ..part })
     }
-    Ok(part)
-}
 
-/// An operand: a form that binds tighter.
-#[cycle(base_enclosed_group_grow_operand_prefix_repeated)]
-fn operand<'t>(
-    reader: &Reader<'t>,
-    pool: &mut Pool,
-    binary: Binary,
-    levels: usize,
-    first: Lexeme<'t>,
-) -> Result<Part<'t>, Refusal>
-    requires { Stands reader.now.text.now first }
-    ensures goes { Goes reader.now levels (tighter binary) first.entry (pool_of pool.old) result (pool_of pool.new) }
-    ensures lent { pool.new.items.ghost_name ≡ pool.old.items.ghost_name }
-{
-    match binary {
-        Binary::Or => group(reader, pool, Binary::And, levels, first),
-        Binary::And => group(reader, pool, Binary::Sequence, levels, first),
-        Binary::Sequence => prefix(reader, pool, levels, first),
+    /// A base with its stars.
+    #[cycle(readers)]
+    fn repeated<S: Sink>(self, sink: &mut S) -> Result<Part<'t>, Refusal>
+        ensures goes { GoesFrom S.step self.entry starred (S.pool sink.old) result (S.pool sink.new) }
+        ensures lent { S.memory sink.new ≡ S.memory sink.old }
+    {
+        let part = self.base(sink)?;
+        Walk {
+            first: part.next,
+            reader: self.reader,
+            levels: self.levels,
+        }
+        .stars(sink, part.node)
     }
-}
 
-/// Signs `!` and then a base with its stars.
-#[cycle(base_enclosed_group_grow_operand_prefix_repeated)]
-fn prefix<'t>(
-    reader: &Reader<'t>,
-    pool: &mut Pool,
-    levels: usize,
-    first: Lexeme<'t>,
-) -> Result<Part<'t>, Refusal>
-    requires { Stands reader.now.text.now first }
-    ensures goes { Goes reader.now levels prefixes first.entry (pool_of pool.old) result (pool_of pool.new) }
-    ensures lent { pool.new.items.ghost_name ≡ pool.old.items.ghost_name }
-{
-    if sign_of(first.token) != b'!' {
-        return repeated(reader, pool, levels, first);
+    /// A form of one token, or one in parentheses.
+    #[cycle(readers)]
+    fn base<S: Sink>(self, sink: &mut S) -> Result<Part<'t>, Refusal>
+        ensures goes { GoesFrom S.step self.entry bases (S.pool sink.old) result (S.pool sink.new) }
+        ensures lent { S.memory sink.new ≡ S.memory sink.old }
+    {
+        if let Token::Opening = self.first.token {
+            return self.enclosed(sink);
+        }
+        match leaf(self.reader, self.first.token) {
+            Some(form) => self.single(sink, form),
+            None => Err(Question::GrammarAllows.at(self.first.place)),
+        }
     }
-    if none_is_left(levels) {
-        return Err(Question::LevelsOpen.at(first.place));
-    }
-    let start = advance(reader, first.after)?;
-    let part = prefix(reader, pool, levels - 1, start)?;
-    let node = put(reader.pass, pool, Form::Not(part.node))?;
-    Ok(Part {
-        node,
-        next: part.next,
-    })
-}
 
-/// A base with its stars.
-#[cycle(base_enclosed_group_grow_operand_prefix_repeated)]
-fn repeated<'t>(
-    reader: &Reader<'t>,
-    pool: &mut Pool,
-    levels: usize,
-    first: Lexeme<'t>,
-) -> Result<Part<'t>, Refusal>
-    requires { Stands reader.now.text.now first }
-    ensures goes { Goes reader.now levels starred first.entry (pool_of pool.old) result (pool_of pool.new) }
-    ensures lent { pool.new.items.ghost_name ≡ pool.old.items.ghost_name }
-{
-    let part = base(reader, pool, levels, first)?;
-    stars(reader, pool, levels, part)
-}
-
-/// A form of one token, or one in parentheses.
-#[cycle(base_enclosed_group_grow_operand_prefix_repeated)]
-fn base<'t>(
-    reader: &Reader<'t>,
-    pool: &mut Pool,
-    levels: usize,
-    first: Lexeme<'t>,
-) -> Result<Part<'t>, Refusal>
-    requires { Stands reader.now.text.now first }
-    ensures goes { Goes reader.now levels bases first.entry (pool_of pool.old) result (pool_of pool.new) }
-    ensures lent { pool.new.items.ghost_name ≡ pool.old.items.ghost_name }
-{
-    if sign_of(first.token) == b'(' {
-        return enclosed(reader, pool, levels, first);
+    /// A form in parentheses, from its `(` on.
+    #[cycle(readers)]
+    fn enclosed<S: Sink>(self, sink: &mut S) -> Result<Part<'t>, Refusal>
+        requires { self.first.token ≡ Opening }
+        ensures goes { GoesFrom S.step self.entry bases (S.pool sink.old) result (S.pool sink.new) }
+        ensures lent { S.memory sink.new ≡ S.memory sink.old }
+    {
+        let levels = self.levels_inside()?;
+        let first = advance(self.reader, self.first.after)?;
+        let part = Walk {
+            first,
+            reader: self.reader,
+            levels,
+        }
+        .group(sink, Binary::Or)?;
+        let Token::Closing = part.next.token else {
+            return Err(Question::GrammarAllows.at(part.next.place));
+        };
+        let next = advance(self.reader, part.next.after)?;
+        Ok(Part { next, ..part })
     }
-    match leaf(reader, first.token) {
-        Some(form) => single(reader, pool, levels, first, form),
-        None => Err(Question::GrammarAllows.at(first.place)),
-    }
-}
-
-/// A form in parentheses, from its `(` on.
-#[cycle(base_enclosed_group_grow_operand_prefix_repeated)]
-fn enclosed<'t>(
-    reader: &Reader<'t>,
-    pool: &mut Pool,
-    levels: usize,
-    first: Lexeme<'t>,
-) -> Result<Part<'t>, Refusal>
-    requires stands { Stands reader.now.text.now first }
-    requires opens { sign_of (token_of first.token) ≡ 40 }
-    ensures goes { Goes reader.now levels bases first.entry (pool_of pool.old) result (pool_of pool.new) }
-    ensures lent { pool.new.items.ghost_name ≡ pool.old.items.ghost_name }
-{
-    if none_is_left(levels) {
-        return Err(Question::LevelsOpen.at(first.place));
-    }
-    let start = advance(reader, first.after)?;
-    let part = group(reader, pool, Binary::Or, levels - 1, start)?;
-    if sign_of(part.next.token) != b')' {
-        return Err(Question::GrammarAllows.at(part.next.place));
-    }
-    let next = advance(reader, part.next.after)?;
-    Ok(Part {
-        node: part.node,
-        next,
-    })
-}
-
-/// Whether all levels are open.
-fn none_is_left(levels: usize) -> bool
-    ensures { result ≡ (levels == 0) }
-{
-    levels == 0
 }

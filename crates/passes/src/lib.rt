@@ -5,7 +5,9 @@ mod binary;
 mod cycle;
 mod entering;
 mod part;
+mod sink;
 mod stars;
+mod walk;
 mod whole;
 
 pub use binary::Binary;

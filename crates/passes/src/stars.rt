@@ -1,32 +1,31 @@
 //! Stars behind a base.
 ghost use Rattle.std.specs.Prelude.{◌≡◌};
 ghost use Rattle.grammar.specs.Grammar.{starred};
-ghost use Rattle.nodes.specs.Pools.{pool_of};
-ghost use Rattle.passes.specs.Going.{Grown};
-ghost use Rattle.surveys.specs.Looking.{Stands};
+ghost use Rattle.passes.specs.Going.{GrownFrom};
 
-use crate::entering::put;
 use crate::part::Part;
-use nodes::{Form, Pool};
+use crate::sink::Sink;
+use crate::walk::Walk;
+use grammar::Token;
+use nodes::Form;
 use refusals::Refusal;
-use surveys::{Reader, advance, sign_of};
+use surveys::advance;
 
-/// Goes on from a base as long as stars follow.
-pub(crate) fn stars<'t>(
-    reader: &Reader<'t>,
-    pool: &mut Pool,
-    levels: usize,
-    base: Part<'t>,
-) -> Result<Part<'t>, Refusal>
-    requires { Stands reader.now.text.now base.next }
-    ensures grown { Grown reader.now levels starred base.entry (pool_of pool.old) result (pool_of pool.new) }
-    ensures lent { pool.new.items.ghost_name ≡ pool.old.items.ghost_name }
-{
-    let mut part = base;
-    while sign_of(part.next.token) == b'*' {
-        let next = advance(reader, part.next.after)?;
-        let node = put(reader.pass, pool, Form::Star(part.node))?;
-        part = Part { node, next };
+impl<'r, 't> Walk<'r, 't> {
+    /// Goes on from a base as long as stars follow.
+    pub(crate) fn stars<S: Sink>(self, sink: &mut S, node: u16) -> Result<Part<'t>, Refusal>
+        ensures grown { GrownFrom S.step self.entry starred node (S.pool sink.old) result (S.pool sink.new) }
+        ensures lent { S.memory sink.new ≡ S.memory sink.old }
+    {
+        let mut part = Part {
+            node,
+            next: self.first,
+        };
+        while let Token::Asterisk = part.next.token {
+            let next = advance(self.reader, part.next.after)?;
+            let node = sink.put(Form::Star(part.node))?;
+            part = Part { node, next };
+        }
+        Ok(part)
     }
-    Ok(part)
 }

@@ -1,5 +1,4 @@
 //! Cases: a call, and the pool that it is made on.
-use anyhow::anyhow;
 use nodes::{Form, Node, NodeKind};
 use std::alloc::Global;
 
@@ -35,16 +34,11 @@ fn called(word: &str) -> anyhow::Result<(Call, usize)> {
         return Ok((Call::FirstUnsound, 0));
     };
     let [count, second, third, fourth] = numbers(value)?;
-    if name == "derive" {
-        return Ok((
-            Call::Derive(field(second), u32::try_from(third).unwrap_or(u32::MAX)),
-            count,
-        ));
-    }
-    Ok((
-        Call::Enter(form_of(kind_of(second)?, field(third), field(fourth))),
-        count,
-    ))
+    let call = match name {
+        "derive" => Call::Derive(field(second), u32::try_from(third).unwrap_or(u32::MAX)),
+        _ => Call::Enter(form_of(kind_of(second)?, field(third), field(fourth))),
+    };
+    Ok((call, count))
 }
 
 /// Adds the records that a word stands for.
@@ -81,10 +75,8 @@ fn record(word: &str) -> anyhow::Result<Node> {
 /// Up to four numbers with commas between them; one that is not there is 0.
 fn numbers(word: &str) -> anyhow::Result<[usize; 4]> {
     let mut numbers = [0; 4];
-    for (place, part) in word.split(',').enumerate() {
-        if place < numbers.len() {
-            numbers[place] = part.parse::<usize>()?;
-        }
+    for (number, part) in numbers.iter_mut().zip(word.split(',')) {
+        *number = part.parse::<usize>()?;
     }
     Ok(numbers)
 }
@@ -94,18 +86,7 @@ fn field(number: usize) -> u16 {
 }
 
 fn kind_of(number: usize) -> anyhow::Result<NodeKind> {
-    match number {
-        0 => Ok(NodeKind::None),
-        1 => Ok(NodeKind::Empty),
-        2 => Ok(NodeKind::Any),
-        3 => Ok(NodeKind::Atom),
-        4 => Ok(NodeKind::Sequence),
-        5 => Ok(NodeKind::Or),
-        6 => Ok(NodeKind::And),
-        7 => Ok(NodeKind::Star),
-        8 => Ok(NodeKind::Not),
-        _ => Err(anyhow!("no such kind")),
-    }
+    Ok(NodeKind::try_from(u8::try_from(number)?)?)
 }
 
 fn form_of(kind: NodeKind, left: u16, right: u16) -> Form {

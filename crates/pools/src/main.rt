@@ -17,8 +17,7 @@ fn run(rt: &HostRuntime) -> anyhow::Result<()> {
     let heap = rt.alloc();
     let mut out = BufWriter::new(heap, rt.stdout())?;
     for line in BufReader::new(heap, rt.stdin())?.lines(heap) {
-        let line = line?;
-        let case = Case::read(heap, line.as_str())?;
+        let case = Case::read(heap, line?.as_str())?;
         out.writeln(of_call(heap, &case)?)?;
     }
     out.flush()?;

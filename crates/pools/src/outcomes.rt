@@ -2,7 +2,7 @@
 use crate::cases::{Call, Case};
 use derivatives::derive;
 use nodes::{Node, enter, first_unsound};
-use numbering::{Book, Same};
+use numbering::Book;
 use refusals::Refusal;
 use std::alloc::{AllocError, Global};
 
@@ -38,18 +38,15 @@ fn answered(
     match answer {
         Ok(number) => format!(in heap; "OK {number} {count}"),
         Err(Refusal { question, place }) => {
-            let number = question.number();
-            format!(in heap; "REFUSED {number} {place} {count}")
+            format!(in heap; "REFUSED {question} {place} {count}")
         }
     }
 }
 
 /// Adds each place that does not hold what it held before.
 fn add_changes(line: &mut String, before: &[Node], after: &[Node]) -> anyhow::Result<()> {
-    for (place, new) in after.iter().enumerate() {
-        if let Some(old) = before.get(place)
-            && !old.same(*new)
-        {
+    for (place, (old, new)) in before.iter().zip(after.iter()).enumerate() {
+        if old != new {
             add_record(line, place, *new)?;
         }
     }
@@ -58,9 +55,8 @@ fn add_changes(line: &mut String, before: &[Node], after: &[Node]) -> anyhow::Re
 
 fn add_record(line: &mut String, place: usize, node: Node) -> anyhow::Result<()> {
     let kind = node.kind.number();
-    let left = node.left;
-    let right = node.right;
     let flag = u8::from(node.nullable);
+    let Node { left, right, .. } = node;
     write!(line, " ({place} {kind} {left} {right} {flag})")?;
     Ok(())
 }

@@ -13,8 +13,7 @@ use Rattle.grammar.specs.Parsing.{Read, ahead, bases_by, closed_by, grown_by, jo
 use Rattle.grammar.specs.Tokens.{bar, ampersand, bang, asterisk, opening, closing, nought, one, dot, bracket, Lexed, end, bad, token, leads, opens, rest}
 use Rattle.nodes.specs.Entering.{Held}
 use Rattle.passes.specs.declared.binary.Binary.{Binary}
-use Rattle.surveys.specs.declared.reader.Pass.TheVariants.{Check}
-use Rattle.passes.specs.Passing.{Answer, Grows, Reads, basing, go, grow_by, grow_into, growing, inside, level_of, negating, over, read_by, read_into, shut, starring}
+use Rattle.passes.specs.Passing.{Answer, Grows, Reads, basing, checked, go, grow_by, grow_into, growing, inside, level_of, negating, over, read_by, read_into, shut, starring}
 
 abbrev pub numbered : Read → Result (ℕ × Lexed) Refusal
 numbered (Ok x) = Ok (0, x.1)
@@ -33,7 +32,7 @@ over-past (end p) h f F same = same (end p)
 over-past (bad r) h f F same = refl
 over-past (token t p ts) h f F same = same (token t p ts)
 
-over-opens : (ts : Lexed) (h : Held) (f : Lexed → Answer) → opens ts ≡ true → over ts h f ≡ f ts
+pub over-opens : (ts : Lexed) (h : Held) (f : Lexed → Answer) → opens ts ≡ true → over ts h f ≡ f ts
 over-opens (end p) h f is = refl
 over-opens (bad r) h f is = absurd (false≢true is)
 over-opens (token t p ts) h f is = refl
@@ -49,7 +48,7 @@ module _ (names others : List ℕ → ℕ) (rd : Reads) (mr : Grows) (RD : Parsi
   after_first : (n : ℕ) (Y : Level) (us : Lexed) (h : Held) (f : ℕ → Lexed → Held → Answer) (F : Rule → Lexed → Read) → ((r : Rule) (vs : Lexed) → f 0 vs h ≡ kept (F r vs) h) → go (rd n Y us h) f ≡ kept (then (RD n Y us) F) h
   after_first n Y us h f F same = ap (λ a. go a f) (rd-kept n Y us h) ∙ go-then (RD n Y us) h f F same
 
-  growing-kept : (n : ℕ) (b : Binary) (r : Rule) (ts : Lexed) (h : Held) (t : Bool) → joins (level_of b) ts ≡ t → growing rd mr Check n b 0 ts h t ≡ kept (grown_by RD MR n (level_of b) r ts t) h
+  growing-kept : (n : ℕ) (b : Binary) (r : Rule) (ts : Lexed) (h : Held) (t : Bool) → joins (level_of b) ts ≡ t → growing rd mr checked n b 0 ts h t ≡ kept (grown_by RD MR n (level_of b) r ts t) h
   growing-kept n b r ts h false is = refl
   growing-kept n Binary.Or r ts h true is =
       over-past (rest ts) h _ _ (λ us. after_first n conjunctions us h _ _ (λ q vs. mr-kept n alternatives (Rules.or r q) vs h))
@@ -58,11 +57,11 @@ module _ (names others : List ℕ → ℕ) (rd : Reads) (mr : Grows) (RD : Parsi
   growing-kept n Binary.Sequence r ts h true is =
       over-opens ts h _ is ∙ after_first n prefixes ts h _ _ (λ q vs. mr-kept n sequences (Rules.sequence r q) vs h)
 
-  starring-kept : (n : ℕ) (r : Rule) (ts : Lexed) (h : Held) (t : Bool) → starring mr Check n 0 ts h t ≡ kept (grown_by RD MR n starred r ts t) h
+  starring-kept : (n : ℕ) (r : Rule) (ts : Lexed) (h : Held) (t : Bool) → starring mr checked n 0 ts h t ≡ kept (grown_by RD MR n starred r ts t) h
   starring-kept n r ts h false = refl
   starring-kept n r ts h true = over-past (rest ts) h _ _ (λ us. mr-kept n starred (Rules.star r) us h)
 
-  grow_kept : (n : ℕ) (X : Level) (r : Rule) (ts : Lexed) (h : Held) → grow_by rd mr Check n X 0 ts h ≡ kept (more_by RD MR n X r ts) h
+  grow_kept : (n : ℕ) (X : Level) (r : Rule) (ts : Lexed) (h : Held) → grow_by rd mr checked n X 0 ts h ≡ kept (more_by RD MR n X r ts) h
   grow_kept n alternatives r ts h = growing-kept n Binary.Or r ts h (joins alternatives ts) refl
   grow_kept n conjunctions r ts h = growing-kept n Binary.And r ts h (joins conjunctions ts) refl
   grow_kept n sequences r ts h = growing-kept n Binary.Sequence r ts h (joins sequences ts) refl
@@ -70,7 +69,7 @@ module _ (names others : List ℕ → ℕ) (rd : Reads) (mr : Grows) (RD : Parsi
   grow_kept n starred r ts h = starring-kept n r ts h (joins starred ts)
   grow_kept n bases r ts h = refl
 
-  negating-kept : (n : ℕ) (ts : Lexed) (h : Held) (t : Bool) → negating rd Check n ts h t ≡ kept (not_by RD n ts t) h
+  negating-kept : (n : ℕ) (ts : Lexed) (h : Held) (t : Bool) → negating rd checked n ts h t ≡ kept (not_by RD n ts t) h
   negating-kept n ts h false = rd-kept n starred ts h
   negating-kept n ts h true = inside-entered n ts h _ _ (λ m us. after_first m prefixes us h _ _ (λ r vs. refl))
 
@@ -81,7 +80,7 @@ module _ (names others : List ℕ → ℕ) (rd : Reads) (mr : Grows) (RD : Parsi
   leaf_kept : (r : Rule) (ts : Lexed) (h : Held) → over ts h (λ us. (Ok (0, us), h)) ≡ kept (ahead r ts) h
   leaf_kept r ts h = over-past ts h _ _ (λ us. refl)
 
-  basing-kept : (n : ℕ) (ts : Lexed) (h : Held) → basing rd Check names n ts h (leads 40 ts) ≡ kept (bases_by RD others n ts) h
+  basing-kept : (n : ℕ) (ts : Lexed) (h : Held) → basing rd checked names n ts h (leads 40 ts) ≡ kept (bases_by RD others n ts) h
   basing-kept n (end p) h = refl
   basing-kept n (bad r) h = refl
   basing-kept n (token bar p ts) h = refl
@@ -96,7 +95,7 @@ module _ (names others : List ℕ → ℕ) (rd : Reads) (mr : Grows) (RD : Parsi
   basing-kept n (token dot p ts) h = leaf_kept any ts h
   basing-kept n (token (bracket s) p ts) h = leaf_kept (atom (others s)) ts h
 
-  read_kept : (n : ℕ) (X : Level) (ts : Lexed) (h : Held) → read_by rd mr Check names n X ts h ≡ kept (Parsing.read_by RD MR others n X ts) h
+  read_kept : (n : ℕ) (X : Level) (ts : Lexed) (h : Held) → read_by rd mr checked names n X ts h ≡ kept (Parsing.read_by RD MR others n X ts) h
   read_kept n alternatives ts h = after_first n conjunctions ts h _ _ (λ r vs. mr-kept n alternatives r vs h)
   read_kept n conjunctions ts h = after_first n sequences ts h _ _ (λ r vs. mr-kept n conjunctions r vs h)
   read_kept n sequences ts h = after_first n prefixes ts h _ _ (λ r vs. mr-kept n sequences r vs h)
@@ -107,10 +106,10 @@ module _ (names others : List ℕ → ℕ) (rd : Reads) (mr : Grows) (RD : Parsi
 mutual
   unfolding read_into grow_into read more
 
-  pub checks : (k : ℕ) (names others : List ℕ → ℕ) (n : ℕ) (X : Level) (ts : Lexed) (h : Held) → read_into k Check names n X ts h ≡ (numbered (read k others n X ts), h)
+  pub checks : (k : ℕ) (names others : List ℕ → ℕ) (n : ℕ) (X : Level) (ts : Lexed) (h : Held) → read_into k checked names n X ts h ≡ (numbered (read k others n X ts), h)
   checks zero names others n X ts h = refl
-  checks (suc k) names others n X ts h = read_kept names others (read_into k Check names) (grow_into k Check names) (read k others) (more k others) (checks k names others) (checks_on k names others) n X ts h
+  checks (suc k) names others n X ts h = read_kept names others (read_into k checked names) (grow_into k checked names) (read k others) (more k others) (checks k names others) (checks_on k names others) n X ts h
 
-  pub checks_on : (k : ℕ) (names others : List ℕ → ℕ) (n : ℕ) (X : Level) (r : Rule) (ts : Lexed) (h : Held) → grow_into k Check names n X 0 ts h ≡ (numbered (more k others n X r ts), h)
+  pub checks_on : (k : ℕ) (names others : List ℕ → ℕ) (n : ℕ) (X : Level) (r : Rule) (ts : Lexed) (h : Held) → grow_into k checked names n X 0 ts h ≡ (numbered (more k others n X r ts), h)
   checks_on zero names others n X r ts h = refl
-  checks_on (suc k) names others n X r ts h = grow_kept names others (read_into k Check names) (grow_into k Check names) (read k others) (more k others) (checks k names others) (checks_on k names others) n X r ts h
+  checks_on (suc k) names others n X r ts h = grow_kept names others (read_into k checked names) (grow_into k checked names) (read k others) (more k others) (checks k names others) (checks_on k names others) n X r ts h

@@ -7,13 +7,13 @@ use Rattle.languages.specs.Rules.{Rule, none, empty, any, atom, sequence, or, an
 use Rattle.grammar.specs.Grammar.{Level, alternatives, conjunctions, sequences, prefixes, starred, bases}
 use Rattle.grammar.specs.Parsing as Parsing
 use Rattle.grammar.specs.Parsing.{Read, ahead, bases_by, closed, closed_by, grown_by, joins, more_by, not_by, past, read, more, then}
-use Rattle.grammar.specs.Tokens.{bar, ampersand, bang, asterisk, opening, closing, nought, one, dot, bracket, Lexed, end, bad, token, leads, opens, rest}
+use Rattle.grammar.specs.Tokens.{bar, ampersand, bang, asterisk, opening, closing, nought, one, dot, bracket, Lexed, end, bad, token, leads, rest}
 use Rattle.grammar.proofs.Steps.{err_never, ok_parts, then_ok, past_ok}
 use Rattle.nodes.specs.declared.form.Form.{Form}
 use Rattle.nodes.specs.Entering.{Held, Out, bind, entered}
 use Rattle.nodes.specs.Trees.{entered_tree}
 use Rattle.passes.specs.declared.binary.Binary.{Binary}
-use Rattle.surveys.specs.declared.reader.Pass.TheVariants.{Enter}
+use Rattle.reader.proofs.Checking.{over-opens}
 use Rattle.passes.specs.Passing.{Answer, Grows, Reads, basing, go, grow_by, grow_into, growing, inside, joining, level_of, negating, onset_of, over, read_by, read_into, shut, starring, tighter, with, with_by}
 
 abbrev pub placed : Out → Lexed → Answer
@@ -47,11 +47,6 @@ over_ok (end p) f y h F e = refl
 over_ok (bad r) f y h F e = absurd (err_never r y e)
 over_ok (token t p ts) f y h F e = refl
 
-over-opens : (ts : Lexed) (h : Held) (F : Lexed → Answer) → opens ts ≡ true → over ts h F ≡ F ts
-over-opens (end p) h F is = refl
-over-opens (bad r) h F is = cc
-over-opens (token t p ts) h F is = refl
-
 -- A form of two operands, as a rule.
 abbrev make_of : Binary → Rule → Rule → Rule
 make_of Binary.Or r q = or r q
@@ -76,7 +71,7 @@ module _ (names : List ℕ → ℕ) (rd : Reads) (mr : Grows) (RD : Parsing.Read
       let m = first.0 in
       after_first n Y ts m.0 m.1 h (mr n X) first.1 ∙ mr-enters n X m.0 m.1 r us h first.2
 
-  operand : (n : ℕ) (b : Binary) (q : Rule) (ts : Lexed) (r : Rule) (us : Lexed) (h : Held) → ((g : Held) (F : Lexed → Answer) → over (onset_of b ts) g F ≡ F (onset_of b ts)) → then (RD n (tighter b) (onset_of b ts)) (λ p vs. MR n (level_of b) (make_of b q p) vs) ≡ Ok (r, us) → with (entered_tree q h) (λ l g. growing rd mr Enter n b l ts g true) ≡ placed (entered_tree r h) us
+  operand : (n : ℕ) (b : Binary) (q : Rule) (ts : Lexed) (r : Rule) (us : Lexed) (h : Held) → ((g : Held) (F : Lexed → Answer) → over (onset_of b ts) g F ≡ F (onset_of b ts)) → then (RD n (tighter b) (onset_of b ts)) (λ p vs. MR n (level_of b) (make_of b q p) vs) ≡ Ok (r, us) → with (entered_tree q h) (λ l g. growing rd mr entered n b l ts g true) ≡ placed (entered_tree r h) us
   operand n b q ts r us h there e =
       let first = then_ok (RD n (tighter b) (onset_of b ts)) (λ p vs. MR n (level_of b) (make_of b q p) vs) (r, us) e in
       let p = first.0.0 in
@@ -93,13 +88,13 @@ module _ (names : List ℕ → ℕ) (rd : Reads) (mr : Grows) (RD : Parsing.Read
       let same = ok_parts q r ts us e in
       ap (λ x. placed (entered_tree x h) ts) same.0 ∙ ap (placed (entered_tree r h)) same.1
 
-  growing_enters : (n : ℕ) (b : Binary) (q : Rule) (ts : Lexed) (r : Rule) (us : Lexed) (h : Held) (t : Bool) → joins (level_of b) ts ≡ t → grown_by RD MR n (level_of b) q ts t ≡ Ok (r, us) → with (entered_tree q h) (λ l g. growing rd mr Enter n b l ts g t) ≡ placed (entered_tree r h) us
+  growing_enters : (n : ℕ) (b : Binary) (q : Rule) (ts : Lexed) (r : Rule) (us : Lexed) (h : Held) (t : Bool) → joins (level_of b) ts ≡ t → grown_by RD MR n (level_of b) q ts t ≡ Ok (r, us) → with (entered_tree q h) (λ l g. growing rd mr entered n b l ts g t) ≡ placed (entered_tree r h) us
   growing_enters n b q ts r us h false is e = stays q r ts us h e
   growing_enters n Binary.Or q ts r us h true is e = operand n Binary.Or q ts r us h (λ g F. over_ok (rest ts) _ (r, us) g F e) (past_ok (rest ts) _ (r, us) e)
   growing_enters n Binary.And q ts r us h true is e = operand n Binary.And q ts r us h (λ g F. over_ok (rest ts) _ (r, us) g F e) (past_ok (rest ts) _ (r, us) e)
   growing_enters n Binary.Sequence q ts r us h true is e = operand n Binary.Sequence q ts r us h (λ g F. over-opens ts g F is) e
 
-  starring_enters : (n : ℕ) (q : Rule) (ts : Lexed) (r : Rule) (us : Lexed) (h : Held) (t : Bool) → grown_by RD MR n starred q ts t ≡ Ok (r, us) → with (entered_tree q h) (λ l g. starring mr Enter n l ts g t) ≡ placed (entered_tree r h) us
+  starring_enters : (n : ℕ) (q : Rule) (ts : Lexed) (r : Rule) (us : Lexed) (h : Held) (t : Bool) → grown_by RD MR n starred q ts t ≡ Ok (r, us) → with (entered_tree q h) (λ l g. starring mr entered n l ts g t) ≡ placed (entered_tree r h) us
   starring_enters n q ts r us h false e = stays q r ts us h e
   starring_enters n q ts r us h true e =
       let M : ℕ → Held → Answer = λ x i. mr n starred x (rest ts) i in
@@ -107,7 +102,7 @@ module _ (names : List ℕ → ℕ) (rd : Reads) (mr : Grows) (RD : Parsing.Read
       ∙ sym (with-bind (entered_tree q h) (λ l g. entered (Form.Star l) g) M)
       ∙ mr-enters n starred (star q) (rest ts) r us h (past_ok (rest ts) _ (r, us) e)
 
-  grow_enters : (n : ℕ) (X : Level) (q : Rule) (ts : Lexed) (r : Rule) (us : Lexed) (h : Held) → more_by RD MR n X q ts ≡ Ok (r, us) → with (entered_tree q h) (λ l g. grow_by rd mr Enter n X l ts g) ≡ placed (entered_tree r h) us
+  grow_enters : (n : ℕ) (X : Level) (q : Rule) (ts : Lexed) (r : Rule) (us : Lexed) (h : Held) → more_by RD MR n X q ts ≡ Ok (r, us) → with (entered_tree q h) (λ l g. grow_by rd mr entered n X l ts g) ≡ placed (entered_tree r h) us
   grow_enters n alternatives q ts r us h e = growing_enters n Binary.Or q ts r us h (joins alternatives ts) refl e
   grow_enters n conjunctions q ts r us h e = growing_enters n Binary.And q ts r us h (joins conjunctions ts) refl e
   grow_enters n sequences q ts r us h e = growing_enters n Binary.Sequence q ts r us h (joins sequences ts) refl e
@@ -119,7 +114,7 @@ module _ (names : List ℕ → ℕ) (rd : Reads) (mr : Grows) (RD : Parsing.Read
   inside_ok zero ts h f F y a same e = absurd (err_never _ y e)
   inside_ok (suc n) ts h f F y a same e = over_ok (rest ts) (F n) y h (f n) e ∙ same n (past_ok (rest ts) (F n) y e)
 
-  negating_enters : (n : ℕ) (ts : Lexed) (r : Rule) (us : Lexed) (h : Held) (t : Bool) → not_by RD n ts t ≡ Ok (r, us) → negating rd Enter n ts h t ≡ placed (entered_tree r h) us
+  negating_enters : (n : ℕ) (ts : Lexed) (r : Rule) (us : Lexed) (h : Held) (t : Bool) → not_by RD n ts t ≡ Ok (r, us) → negating rd entered n ts h t ≡ placed (entered_tree r h) us
   negating_enters n ts r us h false e = rd-enters n starred ts r us h e
   negating_enters n ts r us h true e =
       inside_ok n ts h _ _ (r, us) (placed (entered_tree r h) us) (λ m is.
@@ -137,7 +132,7 @@ module _ (names : List ℕ → ℕ) (rd : Reads) (mr : Grows) (RD : Parsing.Read
   leaf_enters q f ts r us h same e =
       over_ok ts _ (r, us) h _ e ∙ ap (λ o. placed o ts) (sym same) ∙ stays q r ts us h (past_ok ts _ (r, us) e)
 
-  basing_enters : (n : ℕ) (ts : Lexed) (r : Rule) (us : Lexed) (h : Held) → bases_by RD names n ts ≡ Ok (r, us) → basing rd Enter names n ts h (leads 40 ts) ≡ placed (entered_tree r h) us
+  basing_enters : (n : ℕ) (ts : Lexed) (r : Rule) (us : Lexed) (h : Held) → bases_by RD names n ts ≡ Ok (r, us) → basing rd entered names n ts h (leads 40 ts) ≡ placed (entered_tree r h) us
   basing_enters n (end p) r us h e = absurd (err_never _ (r, us) e)
   basing_enters n (bad f) r us h e = absurd (err_never _ (r, us) e)
   basing_enters n (token bar p ts) r us h e = absurd (err_never _ (r, us) e)
@@ -156,7 +151,7 @@ module _ (names : List ℕ → ℕ) (rd : Reads) (mr : Grows) (RD : Parsing.Read
   basing_enters n (token dot p ts) r us h e = leaf_enters any Form.Any ts r us h refl e
   basing_enters n (token (bracket s) p ts) r us h e = leaf_enters (atom (names s)) (Form.Atom (names s)) ts r us h refl e
 
-  read_enters : (n : ℕ) (X : Level) (ts : Lexed) (r : Rule) (us : Lexed) (h : Held) → Parsing.read_by RD MR names n X ts ≡ Ok (r, us) → read_by rd mr Enter names n X ts h ≡ placed (entered_tree r h) us
+  read_enters : (n : ℕ) (X : Level) (ts : Lexed) (r : Rule) (us : Lexed) (h : Held) → Parsing.read_by RD MR names n X ts ≡ Ok (r, us) → read_by rd mr entered names n X ts h ≡ placed (entered_tree r h) us
   read_enters n alternatives ts r us h e = begun n alternatives conjunctions ts r us h e
   read_enters n conjunctions ts r us h e = begun n conjunctions sequences ts r us h e
   read_enters n sequences ts r us h e = begun n sequences prefixes ts r us h e
@@ -167,10 +162,10 @@ module _ (names : List ℕ → ℕ) (rd : Reads) (mr : Grows) (RD : Parsing.Read
 mutual
   unfolding read_into grow_into read more
 
-  pub enters : (k : ℕ) (names : List ℕ → ℕ) (n : ℕ) (X : Level) (ts : Lexed) (r : Rule) (us : Lexed) (h : Held) → read k names n X ts ≡ Ok (r, us) → read_into k Enter names n X ts h ≡ placed (entered_tree r h) us
+  pub enters : (k : ℕ) (names : List ℕ → ℕ) (n : ℕ) (X : Level) (ts : Lexed) (r : Rule) (us : Lexed) (h : Held) → read k names n X ts ≡ Ok (r, us) → read_into k entered names n X ts h ≡ placed (entered_tree r h) us
   enters zero names n X ts r us h e = absurd (err_never _ (r, us) e)
-  enters (suc k) names n X ts r us h e = read_enters names (read_into k Enter names) (grow_into k Enter names) (read k names) (more k names) (enters k names) (enters_on k names) n X ts r us h e
+  enters (suc k) names n X ts r us h e = read_enters names (read_into k entered names) (grow_into k entered names) (read k names) (more k names) (enters k names) (enters_on k names) n X ts r us h e
 
-  pub enters_on : (k : ℕ) (names : List ℕ → ℕ) (n : ℕ) (X : Level) (q : Rule) (ts : Lexed) (r : Rule) (us : Lexed) (h : Held) → more k names n X q ts ≡ Ok (r, us) → with (entered_tree q h) (λ l g. grow_into k Enter names n X l ts g) ≡ placed (entered_tree r h) us
+  pub enters_on : (k : ℕ) (names : List ℕ → ℕ) (n : ℕ) (X : Level) (q : Rule) (ts : Lexed) (r : Rule) (us : Lexed) (h : Held) → more k names n X q ts ≡ Ok (r, us) → with (entered_tree q h) (λ l g. grow_into k entered names n X l ts g) ≡ placed (entered_tree r h) us
   enters_on zero names n X q ts r us h e = absurd (err_never _ (r, us) e)
-  enters_on (suc k) names n X q ts r us h e = grow_enters names (read_into k Enter names) (grow_into k Enter names) (read k names) (more k names) (enters k names) (enters_on k names) n X q ts r us h e
+  enters_on (suc k) names n X q ts r us h e = grow_enters names (read_into k entered names) (grow_into k entered names) (read k names) (more k names) (enters k names) (enters_on k names) n X q ts r us h e

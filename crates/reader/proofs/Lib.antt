@@ -1,6 +1,5 @@
 pub mod Checking
 pub mod Filling
-pub mod Writes
 pub mod Numbered
 pub mod Outcomes
 pub mod Naming

@@ -51,8 +51,7 @@ full_untold new es (Err e) h f = f.0
 -- A question about the text is not that of a full pool.
 pool_is_no_text : (f : Refusal) → layered f.question ≡ Text → f.question ≡ NodeRoom → ⊥
 pool_is_no_text f asks full =
-    let z : Pool ≡ Text = sym (ap layered full) ∙ asks in
-    let y : ◌≡◌ {A = ℕ} 0 1 = cc in omega arith
+    let z : Pool ≡ Text = sym (ap layered full) ∙ asks in grind arith
 
 module _ (text : List ℕ) (items : List Node) (es : List Entry) where
   -- Entering the rule that is written.
@@ -86,7 +85,7 @@ module _ (text : List ℕ) (items : List Node) (es : List Entry) where
   )
   accepts (Err f) e = (
     λ u. absurd (pool_is_no_text f (subst Refuses e (text_asks text)) u),
-    λ w. absurd (let z : ◌≡◌ {A = Result Rule Refusal} (Err f) (Ok w.0) = sym e ∙ text_complete text w.0 w.1 in let y : ◌≡◌ {A = ℕ} 0 1 = cc in omega arith),
+    λ w. absurd (let z : ◌≡◌ {A = Result Rule Refusal} (Err f) (Ok w.0) = sym e ∙ text_complete text w.0 w.1 in grind arith),
   )
 
   given_parsed : (p : Result Rule Refusal) → parsed_text text ≡ p → Given text (after_parsing text items es p).0 (after_parsing text items es p).1
@@ -98,17 +97,17 @@ module _ (text : List ℕ) (items : List Node) (es : List Entry) where
   -- A question that is not about the sizes is not asked of them.
   size_asks : (q : Question) (a b : Bool) → (TextLength ≡ q → ⊥) → (ReadingRoom ≡ q → ⊥) → (f : Refusal) →
       first_no ((a, refusing TextLength 0) ∷ (b, refusing ReadingRoom 0) ∷ []) ≡ Some f → f.question ≡ q → ⊥
-  size_asks q true true text-no room-no f e is = let y : ◌≡◌ {A = ℕ} 0 1 = cc in omega arith
+  size_asks q true true text-no room-no f e is = grind arith
   size_asks q true false text-no room-no f e is = room-no (let same : refusing ReadingRoom 0 ≡ f = cc in ap (λ g. g.question) same ∙ is)
   size_asks q false b text-no room-no f e is = text-no (let same : refusing TextLength 0 ≡ f = cc in ap (λ g. g.question) same ∙ is)
 
   given_asked : (o : Option Refusal) → first_no (room_asked (length text) (length items) (length es)) ≡ o → Given text (after_asking text items es o).0 (after_asking text items es o).1
-  given_asked (Some f) e = λ room. absurd (size_asks NodeRoom (leb 1 (length text) && leb (length text) 4096) (leb 4 (length items) && (leb (length items) 4096 && leb 32 (length es))) (λ z. let y : ◌≡◌ {A = ℕ} 0 1 = cc in omega arith) (λ z. let y : ◌≡◌ {A = ℕ} 0 1 = cc in omega arith) f e room)
+  given_asked (Some f) e = λ room. absurd (size_asks NodeRoom (leb 1 (length text) && leb (length text) 4096) (leb 4 (length items) && (leb (length items) 4096 && leb 32 (length es))) (λ z. grind arith) (λ z. grind arith) f e room)
   given_asked None e = given_parsed (parsed_text text) refl
 
   wrong_tree : (new : List Entry) (a : Result ℕ Refusal) (h : Held) → Full a h → Wrong text (rooted new es a h).0
   wrong_tree new (Ok root) h f = tt
-  wrong_tree new (Err e) h f = λ grammar. absurd (let z = sym grammar ∙ f.0 in let y : ◌≡◌ {A = ℕ} 0 1 = cc in omega arith)
+  wrong_tree new (Err e) h f = λ grammar. absurd (let z = sym grammar ∙ f.0 in grind arith)
 
   wrong_parsed : (p : Result Rule Refusal) → parsed_text text ≡ p → Wrong text (after_parsing text items es p).0
   unfolding held
@@ -116,7 +115,7 @@ module _ (text : List ℕ) (items : List Node) (es : List Entry) where
   wrong_parsed (Err f) e = λ grammar. first_wrong text f.place (e ∙ ap (λ q. Err (refusing q f.place)) grammar)
 
   wrong_asked : (o : Option Refusal) → first_no (room_asked (length text) (length items) (length es)) ≡ o → Wrong text (after_asking text items es o).0
-  wrong_asked (Some f) e = λ grammar. absurd (size_asks GrammarAllows (leb 1 (length text) && leb (length text) 4096) (leb 4 (length items) && (leb (length items) 4096 && leb 32 (length es))) (λ z. let y : ◌≡◌ {A = ℕ} 0 1 = cc in omega arith) (λ z. let y : ◌≡◌ {A = ℕ} 0 1 = cc in omega arith) f e grammar)
+  wrong_asked (Some f) e = λ grammar. absurd (size_asks GrammarAllows (leb 1 (length text) && leb (length text) 4096) (leb 4 (length items) && (leb (length items) 4096 && leb 32 (length es))) (λ z. grind arith) (λ z. grind arith) f e grammar)
   wrong_asked None e = wrong_parsed (parsed_text text) refl
 
   left_tree : (new : List Entry) (a : Result ℕ Refusal) (h : Held) (same : Type 0) → Full a h → Left (rooted new es a h).0 same

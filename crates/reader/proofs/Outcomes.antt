@@ -12,13 +12,12 @@ use Rattle.grammar.specs.Parsing.{Read, parsed_text, read, whole, wholly}
 use Rattle.grammar.specs.Tokens.{Lexed, end, bad, token}
 use Rattle.grammar.proofs.OneTree.{text_sound}
 use Rattle.nodes.specs.declared.node.Node.{Node}
-use Rattle.nodes.specs.Entering.{Held, Out, held}
+use Rattle.nodes.specs.Entering.{Held, Out, entered, held}
 use Rattle.nodes.specs.Trees.{entered_tree}
 use Rattle.surveys.specs.declared.entry.Entry.{Entry}
-use Rattle.surveys.specs.declared.reader.Pass.TheVariants.{Enter}
 use Rattle.surveys.specs.declared.reader.Reader.{Reader}
 use Rattle.surveys.specs.Entries.{entries, listed, texts_in}
-use Rattle.passes.specs.Passing.{ended, ended_by, ended_of, names_of, passed_into, read_into, settled, with_by}
+use Rattle.passes.specs.Passing.{Step, checked, ended, ended_by, ended_of, names_of, passed_into, read_into, settled, with_by}
 use Rattle.reader.specs.Reading.{Outcome, after_asking, after_entering, after_parsing, filled, first_held, passing, read_text, room_asked, rooted, slice}
 use Rattle.surveys.specs.Surveying.{Surveyed}
 use Rattle.reader.proofs.Checking.{checks, numbered}
@@ -26,10 +25,10 @@ use Rattle.reader.proofs.Filling.{enters, placed}
 use Rattle.reader.proofs.Numbered.{entries_are, entries_few}
 
 -- A pass in the words of the text alone, but for the numbers of its atoms.
-passed_as : (s : Reader) (text : List ℕ) (h : Held) → s.text.now ≡ text → s.horizon ≡ horizon_in text → passed_into s h ≡ ended (read_into (8 * suc (length text)) s.pass (names_of s) 32 alternatives (tokens text) h)
-passed_as s text h e f =
-    ap (λ x. ended (read_into (8 * suc (length x)) s.pass (names_of s) 32 alternatives (within s.horizon (lexed_from x 0)) h)) e
-    ∙ ap (λ p. ended (read_into (8 * suc (length text)) s.pass (names_of s) 32 alternatives (within p (lexed text)) h)) f
+passed_as : (step : Step) (s : Reader) (text : List ℕ) (h : Held) → s.text.now ≡ text → s.horizon ≡ horizon_in text → passed_into step s h ≡ ended (read_into (8 * suc (length text)) step (names_of s) 32 alternatives (tokens text) h)
+passed_as step s text h e f =
+    ap (λ x. ended (read_into (8 * suc (length x)) step (names_of s) 32 alternatives (within s.horizon (lexed_from x 0)) h)) e
+    ∙ ap (λ p. ended (read_into (8 * suc (length text)) step (names_of s) 32 alternatives (within p (lexed text)) h)) f
 
 -- Checking.
 abbrev pub checked_of : Result Rule Refusal → Result ℕ Refusal
@@ -45,24 +44,23 @@ ended_checked : (m : Read) → ended_of (numbered m) ≡ checked_of (wholly m)
 ended_checked (Ok x) = ended-whole x.0 x.1
 ended_checked (Err f) = refl
 
-pub passed_check : (s : Reader) (text : List ℕ) (h : Held) → Surveyed text s → (passed_into s h).0 ≡ checked_of (parsed_text text)
+pub passed_check : (s : Reader) (text : List ℕ) (h : Held) → Surveyed text s → (passed_into checked s h).0 ≡ checked_of (parsed_text text)
 passed_check s text h known =
     let others = number_of (atoms (lexed text)) in
     let k = 8 * suc (length text) in
-    ap (λ o. o.0) (passed_as s text h known.text_is known.horizon-is)
-    ∙ ap (λ p. ended_of (read_into k p (names_of s) 32 alternatives (tokens text) h).0) known.pass_is
+    ap (λ o. o.0) (passed_as checked s text h known.text_is known.horizon-is)
     ∙ ap (λ a. ended_of a.0) (checks k (names_of s) others 32 alternatives (tokens text) h)
     ∙ ended_checked (read k others 32 alternatives (tokens text))
 
 -- Entering.
 wholly_end : (m : Read) (r : Rule) → wholly m ≡ Ok r → (p : ℕ) × (m ≡ Ok (r, end p))
-wholly_end (Err f) r e = let z : ◌≡◌ {A = ℕ} 0 1 = cc in absurd (omega arith)
+wholly_end (Err f) r e = absurd (grind arith)
 wholly_end (Ok x) r e = by x.1 refl e
   where
     by : (ts : Lexed) → x.1 ≡ ts → whole x.0 ts ≡ Ok r → (p : ℕ) × (◌≡◌ {A = Read} (Ok x) (Ok (r, end p)))
     by (end p) is h = let same : x.0 ≡ r = cc in (p, λ i. Ok (same i, is i))
-    by (bad f) is h = let z : ◌≡◌ {A = ℕ} 0 1 = cc in absurd (omega arith)
-    by (token t p ts) is h = let z : ◌≡◌ {A = ℕ} 0 1 = cc in absurd (omega arith)
+    by (bad f) is h = absurd (grind arith)
+    by (token t p ts) is h = absurd (grind arith)
 
 ended-placed : (o : Out) (p : ℕ) → ended (placed o (end p)) ≡ o
 ended-placed o p = by o.0 o.1
@@ -81,13 +79,13 @@ module _ (s : Reader) (text : List ℕ) (known : Surveyed text s) (r : Rule) (is
       ∙ ap (λ x. number_of (texts_in x (entries (lexed text)))) known.text_is
       ∙ ap (λ known. number_of known) (entries_are text)
 
-  passed_enter : (h : Held) → passed_into (record { text = s.text; atoms = s.atoms; horizon = s.horizon; pass = Enter }) h ≡ entered_tree r h
+  passed_enter : (h : Held) → passed_into entered s h ≡ entered_tree r h
   passed_enter h =
       let k = 8 * suc (length text) in
       let names = number_of (atoms (lexed text)) in
       let came = wholly_end (read k names 32 alternatives (tokens text)) r is in
-      passed_as (record { text = s.text; atoms = s.atoms; horizon = s.horizon; pass = Enter }) text h known.text_is known.horizon-is
-      ∙ ap (λ f. ended (read_into k Enter f 32 alternatives (tokens text) h)) names_are
+      passed_as entered s text h known.text_is known.horizon-is
+      ∙ ap (λ f. ended (read_into k entered f 32 alternatives (tokens text) h)) names_are
       ∙ ap ended (enters k names 32 alternatives (tokens text) r (end came.0) h came.1)
       ∙ ended-placed (entered_tree r h) came.0
 
@@ -116,7 +114,7 @@ refused_is (Err g) f e = cc
 
 read_is : (m : Result Rule Refusal) → Ok tt ≡ settled (checked_of m) → (r : Rule) × (m ≡ Ok r)
 read_is (Ok r) e = (r, refl)
-read_is (Err g) e = let z : ◌≡◌ {A = ℕ} 0 1 = cc in absurd (omega arith)
+read_is (Err g) e = absurd (grind arith)
 
 module _ (text : List ℕ) (items : List Node) (es : List Entry) where
   pub outcome_asked : (f : Refusal) → Err f ≡ passing (first_no (room_asked (length text) (length items) (length es))) → ◌≡◌ {A = Outcome} (Err f, items, es) (read_text text items es)
@@ -126,23 +124,23 @@ module _ (text : List ℕ) (items : List Node) (es : List Entry) where
     passed_room : read_text text items es ≡ after_parsing text items es (parsed_text text)
     passed_room = ap (after_asking text items es) (asked_yes _ room)
 
-    pub outcome_refused : (f : Refusal) → Err f ≡ settled (passed_into s (held [] 0)).0 → ◌≡◌ {A = Outcome} (Err f, items, es) (read_text text items es)
+    pub outcome_refused : (f : Refusal) → Err f ≡ settled (passed_into checked s (held [] 0)).0 → ◌≡◌ {A = Outcome} (Err f, items, es) (read_text text items es)
     outcome_refused f e = sym (passed_room ∙ ap (after_parsing text items es) (refused_is (parsed_text text) f (e ∙ ap settled (passed_check s text (held [] 0) known))))
 
-    module _ (yes-all : Ok tt ≡ settled (passed_into s (held [] 0)).0) (more : List Node) (n : ℕ) (a : Result ℕ Refusal) (whole : ◌≡◌ {A = Out} (a, held more n) (passed_into (record { text = s.text; atoms = s.atoms; horizon = s.horizon; pass = Enter }) (first_held items))) where
-      entered_as : rooted (listed s.atoms) es a (held more n) ≡ read_text text items es
-      entered_as =
+    module _ (yes-all : Ok tt ≡ settled (passed_into checked s (held [] 0)).0) (more left : List Node) (n : ℕ) (lent : left ≡ more) (places : List Entry) (wrote : places ≡ filled (listed s.atoms) es) where
+      entered_as : (a : Result ℕ Refusal) → ◌≡◌ {A = Out} (a, held more n) (passed_into entered s (first_held items)) → rooted (listed s.atoms) es a (held more n) ≡ read_text text items es
+      entered_as a whole =
           let came = read_is (parsed_text text) (yes-all ∙ ap settled (passed_check s text (held [] 0) known)) in
           sym (passed_room ∙ ap (after_parsing text items es) came.1
           ∙ ap (λ o. after_entering (entries (lexed text)) es o) (sym (whole ∙ passed_enter s text known came.0 came.1 (first_held items)))
           ∙ ap (λ new. after_entering new es (a, held more n)) (sym (listed_are s text known came.0 came.1)))
 
-      pub outcome_full : (f : Refusal) (places : List Entry) → a ≡ Err f → places ≡ filled (listed s.atoms) es → ◌≡◌ {A = Outcome} (Err f, more, places) (read_text text items es)
-      outcome_full f places is wrote =
-          let as-left : ◌≡◌ {A = Outcome} (Err f, more, places) (rooted (listed s.atoms) es (Err f) (held more n)) = λ i. (Err f, sym (slice-held more n) i, wrote i) in
-          as-left ∙ ap (λ b. rooted (listed s.atoms) es b (held more n)) (sym is) ∙ entered_as
+      pub outcome_full : (f : Refusal) → ◌≡◌ {A = Out} (Err f, held more n) (passed_into entered s (first_held items)) → ◌≡◌ {A = Outcome} (Err f, left, places) (read_text text items es)
+      outcome_full f whole =
+          let as-left : ◌≡◌ {A = Outcome} (Err f, left, places) (rooted (listed s.atoms) es (Err f) (held more n)) = λ i. (Err f, (lent ∙ sym (slice-held more n)) i, wrote i) in
+          as-left ∙ entered_as (Err f) whole
 
-      pub outcome_done : (q found : ℕ) (places : List Entry) → a ≡ Ok q → found ≡ length (listed s.atoms) → places ≡ filled (listed s.atoms) es → ◌≡◌ {A = Outcome} (Ok (record { root = q; nodes = n; atoms = found }), more, places) (read_text text items es)
-      outcome_done q found places is number wrote =
-          let as-left : ◌≡◌ {A = Outcome} (Ok (record { root = q; nodes = n; atoms = found }), more, places) (rooted (listed s.atoms) es (Ok q) (held more n)) = λ i. (Ok (record { root = q; nodes = sym (count_held more n) i; atoms = number i }), sym (slice-held more n) i, wrote i) in
-          as-left ∙ ap (λ b. rooted (listed s.atoms) es b (held more n)) (sym is) ∙ entered_as
+      pub outcome_done : (q found : ℕ) → found ≡ length (listed s.atoms) → ◌≡◌ {A = Out} (Ok q, held more n) (passed_into entered s (first_held items)) → ◌≡◌ {A = Outcome} (Ok (record { root = q; nodes = n; atoms = found }), left, places) (read_text text items es)
+      outcome_done q found number whole =
+          let as-left : ◌≡◌ {A = Outcome} (Ok (record { root = q; nodes = n; atoms = found }), left, places) (rooted (listed s.atoms) es (Ok q) (held more n)) = λ i. (Ok (record { root = q; nodes = sym (count_held more n) i; atoms = number i }), (lent ∙ sym (slice-held more n)) i, wrote i) in
+          as-left ∙ entered_as (Ok q) whole

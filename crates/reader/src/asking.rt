@@ -3,24 +3,22 @@ ghost use Rattle.std.specs.Prelude.{◌≡◌};
 ghost use Rattle.refusals.specs.Questions.{first_no};
 ghost use Rattle.reader.specs.Reading.{passing, room_asked};
 
-use nodes::MOST_NODES;
+use nodes::{FIRST_NODES, MOST_NODES};
 use refusals::{Question, Refusal};
 use surveys::MOST_ATOMS;
 
+/// The most bytes of a text.
 const LONGEST_TEXT: usize = 4096;
-
-/// The nodes that every pool begins with.
-const FEWEST_NODES: usize = 4;
 
 /// Asks of a text's length, a pool's size and the places for atoms whether reading can begin.
 pub(crate) fn ask(text: usize, pool: usize, atoms: usize) -> Result<(), Refusal>
     ensures { result ≡ passing (first_no (room_asked text pool atoms)) }
 {
-    if text < 1 || text > LONGEST_TEXT {
+    if !(1..=LONGEST_TEXT).contains(&text) {
         return Err(Question::TextLength.at(0));
     }
-    let room = pool >= FEWEST_NODES && (pool <= MOST_NODES && atoms >= MOST_ATOMS);
-    if !room {
+    let fits = (FIRST_NODES.len()..=MOST_NODES).contains(&pool) && atoms >= MOST_ATOMS;
+    if !fits {
         return Err(Question::ReadingRoom.at(0));
     }
     Ok(())

@@ -7,5 +7,5 @@ mod worked;
 mod writing;
 
 pub use source::{Reading, read};
-pub use surveys::Entry;
+pub use surveys::{Entry, MOST_ATOMS};
 pub use worked::worked_texts;

@@ -4,11 +4,11 @@ ghost use Rattle.reader.specs.Means.{ReadingMeans};
 ghost use Rattle.reader.specs.Reading.{Outcome, read_text};
 
 use crate::asking::ask;
-use crate::writing::{write_atoms, write_first};
+use crate::writing::{begin, write_atoms};
 use nodes::Node;
 use passes::{check, enter_rule};
 use refusals::Refusal;
-use surveys::{Entry, Pass, survey};
+use surveys::{Entry, survey};
 
 /// What a text was read into: the node of its rule, and how many nodes and atoms there are.
 #[derive(Clone, Copy, PartialEq, Eq, Debug)]
@@ -32,16 +32,15 @@ fn read_text(text: &[u8], pool: &mut [Node], atoms: &mut [Entry]) -> Result<Read
     ensures { ◌≡◌ {A = Outcome} (result, pool.new, atoms.new) (read_text text.now pool.old atoms.old) }
 {
     ask(text.len(), pool.len(), atoms.len())?;
-    let mut reader = survey(text);
+    let reader = survey(text);
     check(&reader)?;
-    reader.pass = Pass::Enter;
-    let found = reader.atoms.used();
-    write_first(pool);
-    write_atoms(&reader.atoms, atoms);
-    let (root, nodes) = enter_rule(&reader, pool);
+    let mut pool = begin(pool);
+    let found = reader.atoms.as_slice();
+    write_atoms(found, atoms);
+    let root = enter_rule(&reader, &mut pool)?;
     Ok(Reading {
-        root: root?,
-        nodes,
-        atoms: found,
+        root,
+        nodes: pool.count,
+        atoms: found.len(),
     })
 }

@@ -4,6 +4,9 @@
 ghost use Rattle.std.specs.Prelude.{◌≡◌};
 ghost use Rattle.refusals.specs.Questions.{numbered, layered, refusing};
 
+use std::error::Error;
+use std::fmt;
+
 /// Which part of the work asks a question.
 #[derive(Clone, Copy, PartialEq, Eq, Debug)]
 pub enum Layer {
@@ -104,3 +107,19 @@ pub struct Refusal {
     pub question: Question,
     pub place: usize,
 }
+
+/// The question's number.
+impl fmt::Display for Question {
+    fn fmt<W: fmt::Write>(&self, f: &mut fmt::Formatter<W>) -> fmt::Result {
+        write!(f, "{}", self.number())
+    }
+}
+
+/// The number and the place; `wording` says the same in sentences.
+impl fmt::Display for Refusal {
+    fn fmt<W: fmt::Write>(&self, f: &mut fmt::Formatter<W>) -> fmt::Result {
+        write!(f, "{} at {}", self.question, self.place)
+    }
+}
+
+impl Error for Refusal {}

@@ -16,9 +16,23 @@ const TEXT: usize = 11;
 
 #[derive(Drop)]
 pub struct Task {
-    file: String,
-    count: u32,
-    rounds: u32,
+    pub file: String,
+    /// How often the work is done in a round.
+    pub count: u32,
+    pub rounds: u32,
+}
+
+impl Task {
+    /// The task on a file that the words COUNT ROUNDS set.
+    pub fn on(file: String, mut words: Args) -> anyhow::Result<Task> {
+        let count = words.next().context("no COUNT")?.parse::<u32>()?;
+        let rounds = words.next().context("no ROUNDS")?.parse::<u32>()?;
+        Ok(Task {
+            file,
+            count,
+            rounds,
+        })
+    }
 }
 
 fn main(rt: HostRuntime) -> anyhow::Result<()> {
@@ -28,43 +42,24 @@ fn main(rt: HostRuntime) -> anyhow::Result<()> {
 fn run(rt: &HostRuntime) -> anyhow::Result<()> {
     let mut words = env::args(rt)?;
     let _ = words.next();
-    match words.next() {
-        Some(word) if word.as_str() == "derive" => rules::run(rt, words),
-        _ => open_file(rt),
+    let first = words.next().context("no FILE")?;
+    if first.as_str() == "derive" {
+        let file = words.next().context("no FILE")?;
+        rules::run(rt, &Task::on(file, words)?)
+    } else {
+        open_file(rt, &Task::on(first, words)?)
     }
 }
 
-fn open_file(rt: &HostRuntime) -> anyhow::Result<()> {
-    let task = asked(rt)?;
+fn open_file(rt: &HostRuntime, task: &Task) -> anyhow::Result<()> {
     let mut bytes = fs::read(rt, task.file.as_str())?;
     let mut scratch = [0u8; MOST_ROWS];
-    let (best, succeeded) = time(rt, bytes.as_mut_slice(), &mut scratch, &task)?;
+    let (best, succeeded) = time(rt, bytes.as_mut_slice(), &mut scratch, task)?;
     tell(rt, bytes.as_slice(), &mut scratch)?;
     println!(rt; "{succeeded} openings succeeded")?;
-    let nanoseconds = best
-        .as_nanos()
-        .checked_div(u128::from(task.count))
-        .unwrap_or(0);
+    let nanoseconds = each(best, u64::from(task.count));
     eprintln!(rt; "{nanoseconds} ns an opening")?;
     Ok(())
-}
-
-fn asked(rt: &HostRuntime) -> anyhow::Result<Task> {
-    let mut words = env::args(rt)?;
-    let _ = words.next();
-    task_in(words)
-}
-
-/// The task that the words FILE COUNT ROUNDS set.
-fn task_in(mut words: Args) -> anyhow::Result<Task> {
-    let file = words.next().context("no FILE")?;
-    let count = words.next().context("no COUNT")?.parse::<u32>()?;
-    let rounds = words.next().context("no ROUNDS")?.parse::<u32>()?;
-    Ok(Task {
-        file,
-        count,
-        rounds,
-    })
 }
 
 /// The time of the best round, and how many openings of all rounds succeeded.
@@ -77,9 +72,8 @@ fn time(
     let mut best = Duration::MAX;
     let mut succeeded = 0u64;
     for _ in 0..task.rounds {
-        let start = Instant::now(rt)?;
-        let more = open_often(bytes, scratch, task.count);
-        best = best.min(start.elapsed(rt)?);
+        let (more, took) = timed(rt, || open_often(bytes, scratch, task.count))?;
+        best = best.min(took);
         succeeded = succeeded.saturating_add(more);
     }
     Ok((best, succeeded))
@@ -111,9 +105,24 @@ fn tell(rt: &HostRuntime, bytes: &[u8], scratch: &mut [u8]) -> io::Result<()> {
             let classes = place.class_count();
             println!(rt; "opened {length} bytes, {rows} rows, {classes} classes")
         }
-        Err(Refusal { question, place }) => {
-            let number = question.number();
-            println!(rt; "refused {number} at {place}")
-        }
+        Err(refusal) => tell_refusal(rt, refusal),
     }
+}
+
+fn tell_refusal(rt: &HostRuntime, refusal: Refusal) -> io::Result<()> {
+    println!(rt; "refused {refusal}")
+}
+
+/// What work gives, and the time that it takes.
+pub fn timed<T: Drop, F: FnOnce() -> T>(rt: &HostRuntime, work: F) -> io::Result<(T, Duration)>
+    requires { F.IsAlwaysCallable work }
+{
+    let start = Instant::now(rt)?;
+    let given = work();
+    Ok((given, start.elapsed(rt)?))
+}
+
+/// The nanoseconds that each of `count` takes.
+pub fn each(all: Duration, count: u64) -> u128 {
+    all.as_nanos().checked_div(u128::from(count)).unwrap_or(0)
 }

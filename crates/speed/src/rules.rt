@@ -1,24 +1,21 @@
 //! Reading a rule, and going through its rows: row 0 is the root, each row is derived by the empty answer set and by that
 //! of each atom alone, and a node that is no row yet is the next row.
-use crate::{Task, task_in};
+use crate::{Task, each, tell_refusal, timed};
 use derivatives::derive;
-use nodes::{MOST_NODES, Node, NodeKind, Pool};
+use nodes::{MOST_NODES, Node, Pool};
 use numbering::Book;
-use reader::{Entry, Reading, read};
+use reader::{Entry, MOST_ATOMS, Reading, read};
 use refusals::Refusal;
-use std::env::Args;
-use std::time::{Duration, Instant};
+use std::time::Duration;
 use std::{fs, io};
+use stepfiles::MOST_ROWS;
 
-const MOST_ROWS: usize = 1024;
-
-/// What every node of the pool holds before anything is read.
-const UNUSED: Node = Node {
-    kind: NodeKind::None,
-    left: 0,
-    right: 0,
-    nullable: false,
-};
+/// The memory that a rule is read into.
+#[derive(Drop)]
+struct Memory {
+    nodes: [Node; MOST_NODES],
+    atoms: [Entry; MOST_ATOMS],
+}
 
 /// What going through the rows came to.
 #[derive(Clone, Copy)]
@@ -26,141 +23,124 @@ struct Journey {
     derivatives: u64,
     rows: usize,
     nodes: usize,
-    full: bool,
+    /// The refusal that ended it before all rows were gone through, if one did.
+    outcome: Result<(), Refusal>,
 }
 
-pub fn run(rt: &HostRuntime, words: Args) -> anyhow::Result<()> {
-    let task = task_in(words)?;
+pub fn run(rt: &HostRuntime, task: &Task) -> anyhow::Result<()> {
     let bytes = fs::read(rt, task.file.as_str())?;
     let text = bytes.as_slice();
-    let mut nodes = [UNUSED; MOST_NODES];
-    let mut atoms = [Entry {
-        place: 0,
-        length: 0,
-    }; 32];
-    match read(text, &mut nodes, &mut atoms) {
-        Ok(reading) => tell(rt, &mut nodes, reading)?,
-        Err(Refusal { question, place }) => {
-            let number = question.number();
-            println!(rt; "refused {number} at {place}")?;
-            return Ok(());
+    let mut memory = Memory {
+        nodes: [Node::default(); MOST_NODES],
+        atoms: [Entry::default(); MOST_ATOMS],
+    };
+    match memory.read(text) {
+        Ok(reading) => {
+            tell(rt, reading, memory.walk(reading))?;
+            time(rt, text, &mut memory, task)?;
         }
+        Err(refusal) => tell_refusal(rt, refusal)?,
     }
-    time(rt, text, &mut nodes, &mut atoms, &task)?;
     Ok(())
 }
 
-/// Says what reading gave, and what going through the rows comes to.
-fn tell(rt: &HostRuntime, pool: &mut [Node], reading: Reading) -> io::Result<()> {
+/// Says what reading gave, and what going through the rows came to.
+fn tell(rt: &HostRuntime, reading: Reading, journey: Journey) -> io::Result<()> {
     let Reading { root, nodes, atoms } = reading;
     println!(rt; "read root {root} nodes {nodes} atoms {atoms}")?;
     let Journey {
         derivatives,
         rows,
         nodes,
-        full,
-    } = walk(pool, reading);
-    let end = if full { " full" } else { "" };
+        outcome,
+    } = journey;
+    let end = if outcome.is_ok() { "" } else { " full" };
     println!(rt; "{derivatives} derivatives rows {rows} nodes {nodes}{end}")
 }
 
 /// Says how long a reading and a derivative take in the best round of each.
-fn time(
-    rt: &HostRuntime,
-    text: &[u8],
-    nodes: &mut [Node],
-    atoms: &mut [Entry],
-    task: &Task,
-) -> io::Result<()> {
+fn time(rt: &HostRuntime, text: &[u8], memory: &mut Memory, task: &Task) -> io::Result<()> {
     let mut reading_best = Duration::MAX;
     let mut walking_best = Duration::MAX;
     let mut derivatives = 0u64;
-    let rounds = task.rounds;
-    for _ in 0..rounds {
-        let start = Instant::now(rt)?;
-        let reading = read_often(text, nodes, atoms, task.count);
-        reading_best = reading_best.min(start.elapsed(rt)?);
-        let start = Instant::now(rt)?;
-        derivatives = walk_often(nodes, reading, task.count);
-        walking_best = walking_best.min(start.elapsed(rt)?);
+    for _ in 0..task.rounds {
+        let (reading, took) = timed(rt, || memory.read_often(text, task.count))?;
+        reading_best = reading_best.min(took);
+        let Some(reading) = reading else {
+            break;
+        };
+        let (found, took) = timed(rt, || memory.walk_often(reading, task.count))?;
+        walking_best = walking_best.min(took);
+        derivatives = found;
     }
     let reading = each(reading_best, u64::from(task.count));
     let derivative = each(walking_best, derivatives);
     eprintln!(rt; "{reading} ns a reading, {derivative} ns a derivative")
 }
 
-fn each(all: Duration, count: u64) -> u128 {
-    all.as_nanos().checked_div(u128::from(count)).unwrap_or(0)
-}
+impl Memory {
+    fn read(&mut self, text: &[u8]) -> Result<Reading, Refusal> {
+        read(text, &mut self.nodes, &mut self.atoms)
+    }
 
-fn read_often(text: &[u8], nodes: &mut [Node], atoms: &mut [Entry], count: u32) -> Reading {
-    let mut last = Reading {
-        root: 0,
-        nodes: 0,
-        atoms: 0,
-    };
-    for _ in 0..count {
-        if let Ok(reading) = read(text, nodes, atoms) {
-            last = reading;
+    /// Reads the text so many times, and gives the last reading.
+    fn read_often(&mut self, text: &[u8], count: u32) -> Option<Reading> {
+        let mut last = None;
+        for _ in 0..count {
+            last = self.read(text).ok();
+        }
+        last
+    }
+
+    /// Goes through the rows so many times, and counts the derivatives that were found in all.
+    fn walk_often(&mut self, reading: Reading, count: u32) -> u64 {
+        let mut derivatives = 0u64;
+        for _ in 0..count {
+            derivatives = derivatives.saturating_add(self.walk(reading).derivatives);
+        }
+        derivatives
+    }
+
+    fn walk(&mut self, reading: Reading) -> Journey {
+        let mut numbers = [0u16; MOST_ROWS];
+        let mut rows = Book {
+            items: &mut numbers,
+            count: 0,
+        };
+        let _ = rows.number(reading.root);
+        let mut pool = Book {
+            items: &mut self.nodes,
+            count: reading.nodes,
+        };
+        let mut derivatives = 0u64;
+        let outcome = walk_rows(&mut pool, &mut rows, reading.atoms, &mut derivatives);
+        Journey {
+            derivatives,
+            rows: rows.count,
+            nodes: pool.count,
+            outcome,
         }
     }
-    last
 }
 
-/// How many derivatives were found in all.
-fn walk_often(nodes: &mut [Node], reading: Reading, count: u32) -> u64 {
-    let mut derivatives = 0u64;
-    for _ in 0..count {
-        derivatives = derivatives.saturating_add(walk(nodes, reading).derivatives);
-    }
-    derivatives
-}
-
-fn walk(nodes: &mut [Node], reading: Reading) -> Journey {
-    let mut numbers = [0u16; MOST_ROWS];
-    let mut rows = Book {
-        items: &mut numbers,
-        count: 0,
-    };
-    let _ = rows.number(reading.root);
-    let mut pool = Book {
-        items: nodes,
-        count: reading.nodes,
-    };
-    let mut derivatives = 0u64;
-    let mut full = false;
+/// Derives the rows that there are, and those that come with it, and counts the derivatives.
+fn walk_rows(
+    pool: &mut Pool,
+    rows: &mut Book<u16>,
+    atoms: usize,
+    derivatives: &mut u64,
+) -> Result<(), Refusal> {
     for row in 0..MOST_ROWS {
         let Some(node) = rows.get(row) else {
             break;
         };
-        let (more, ended) = walk_row(&mut pool, &mut rows, node, reading.atoms);
-        derivatives = derivatives.saturating_add(more);
-        full = ended;
-        if full {
-            break;
+        for class in 0..=atoms {
+            let derivative = derive(pool, node, answers(class))?;
+            *derivatives = derivatives.saturating_add(1);
+            let _ = rows.number(derivative);
         }
     }
-    Journey {
-        derivatives,
-        rows: rows.count,
-        nodes: pool.count,
-        full,
-    }
-}
-
-/// The derivatives of one row, and whether the pool was full before all were found.
-fn walk_row(pool: &mut Pool, rows: &mut Book<u16>, node: u16, atoms: usize) -> (u64, bool) {
-    let mut derivatives = 0u64;
-    for class in 0..=atoms {
-        match derive(pool, node, answers(class)) {
-            Ok(derivative) => {
-                derivatives = derivatives.saturating_add(1);
-                let _ = rows.number(derivative);
-            }
-            Err(_) => return (derivatives, true),
-        }
-    }
-    (derivatives, false)
+    Ok(())
 }
 
 /// No bit for class 0, and then the bit of each atom alone.

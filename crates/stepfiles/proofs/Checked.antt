@@ -2,11 +2,10 @@
 use Rattle.std.proofs.Common.{◌≡◌, ℕ, true, not, List, is_some, None, Option}
 use Rattle.std.proofs.lemmas.Bool.{not-true, and_parts}
 use Rattle.languages.specs.Tables.{Closed}
+use Rattle.refusals.specs.Questions.{first_no}
 use Rattle.stepfiles.specs.Layout.{rows_in, classes_in, table_in}
-use Rattle.stepfiles.specs.Opening.{first_no, header, bad_target, bad_target_in, bad_target_of, bad_mark, worked_in, step_file}
-use Rattle.stepfiles.specs.Proper.{RightHeader}
+use Rattle.stepfiles.specs.Opening.{header, bad_target, bad_target_in, bad_target_of, bad_mark, worked_in, step_file}
 use Rattle.stepfiles.proofs.Finding.{is_none, nowhere}
-use Rattle.stepfiles.proofs.Headers.{right_header}
 use Rattle.stepfiles.proofs.Scanning.{target_below}
 
 -- no question is answered with no
@@ -37,6 +36,3 @@ checked b u = rw (u.header_yes, u.targets_yes, u.marks_yes)
 pub closed : (b : List ℕ) → bad_target b ≡ None → Closed (table_in b)
 closed b none r c row class =
     target_below b r c (nowhere (bad_target_of b r) (classes_in b) (nowhere (bad_target_in b) (rows_in b) none r row) c class)
-
-pub headed : (b : List ℕ) → step_file b ≡ true → RightHeader b
-headed b e = right_header b (unrefused b e).header_yes

@@ -3,8 +3,8 @@ use Rattle.std.proofs.Common.{◌≡◌, ℕ, ◌<◌, true, eqb, List, [], ◌�
 use lib.Bits.{bit_and, bit_or}
 use lib.ListN.{length-map}
 use Rattle.std.proofs.lemmas.List.{map-set, get_or-map}
-use Rattle.languages.specs.declared.Mark.{Mark}
-use Rattle.languages.specs.declared.Mark.TheVariants.{Settled, Holds, Open, Lost}
+use Rattle.languages.specs.declared.marks.Mark.{Mark}
+use Rattle.languages.specs.declared.marks.Mark.TheVariants.{Settled, Holds, Open, Lost}
 use Rattle.languages.specs.Marks.{number, join}
 use Rattle.languages.proofs.Marking.{sees_yes, sees_no}
 use Rattle.stepfiles.specs.Coding.{decoded, marks_in, Coded}

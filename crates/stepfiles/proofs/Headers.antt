@@ -1,10 +1,9 @@
 -- The questions about the header are answered with yes exactly where the header is right. Assumes nothing.
-use Rattle.std.proofs.Common.{◌≡◌, ℕ, ◌≤◌, Bool, true, false, cond, ◌&&◌, leb, List, Some, None, Ok, Err, Option, refl, ap, arith}
+use Rattle.std.proofs.Common.{◌≡◌, ℕ, ◌≤◌, Bool, true, false, cond, ◌&&◌, leb, List, Some, None, Option, refl}
 use Rattle.std.proofs.lemmas.Bool.{leb-true, eqb-true, and_parts, and_from, le-leb, eq-eqb}
 use Rattle.refusals.specs.declared.Refusal.{Refusal}
-use Rattle.stepfiles.specs.declared.layout.Layout.{Layout}
-use Rattle.stepfiles.specs.Layout.{Laid, layout_in}
-use Rattle.stepfiles.specs.Opening.{first_no, header, laid_unless, laid_out}
+use Rattle.refusals.specs.Questions.{first_no}
+use Rattle.stepfiles.specs.Opening.{header}
 use Rattle.stepfiles.specs.Proper.{RightHeader}
 
 yes_first : (y : Bool) (f : Refusal) (rest : Option Refusal) → cond y rest (Some f) ≡ None → (y ≡ true) × (rest ≡ None)
@@ -40,33 +39,3 @@ between p = and_from _ _ (le-leb _ _ p.0) (le-leb _ _ p.1)
 
 pub no_refusal : (b : List ℕ) → RightHeader b → first_no (header b) ≡ None
 no_refusal b h = rw (le-leb _ _ h.long, eq-eqb _ _ h.length_true, eq-eqb _ _ h.version, between h.kind, between h.rows, le-leb _ _ h.classes, between h.text, eq-eqb _ _ h.whole)
-
--- a right header lays the file out
-pub laid : (b : List ℕ) (l : Layout) → RightHeader b → l ≡ layout_in b → l.classes ≤ 255 → Laid b l
-laid b l h is few = record {
-  rows = ap (λ l. l.rows) is;
-  classes = ap (λ l. l.classes) is;
-  table = ap (λ l. l.table) is;
-  whole = rw is h.whole;
-  few_rows = rw is h.rows.1;
-  few_classes = few;
-  near = rw is (omega (arith, h.text.1));
-}
-
--- what the header's answer tells of its questions
-at_ok : (m l : Layout) (o : Option Refusal) → Ok l ≡ laid_unless m o → (o ≡ None) × (l ≡ m)
-at_ok m l None e = (refl, cc)
-at_ok m l (Some f) e = (cc, cc)
-
-at_err : (m : Layout) (f : Refusal) (o : Option Refusal) → Err f ≡ laid_unless m o → o ≡ Some f
-at_err m f None e = cc
-at_err m f (Some g) e = cc
-
-pub header_yes : (b : List ℕ) (l : Layout) → Ok l ≡ laid_out b → (first_no (header b) ≡ None) × (l ≡ layout_in b)
-header_yes b l e = at_ok (layout_in b) l (first_no (header b)) e
-
-pub header_no : (b : List ℕ) (f : Refusal) → Err f ≡ laid_out b → first_no (header b) ≡ Some f
-header_no b f e = at_err (layout_in b) f (first_no (header b)) e
-
-pub header_laid : (b : List ℕ) (l : Layout) → Ok l ≡ laid_out b → l.classes ≤ 255 → Laid b l
-header_laid b l e few = let p = header_yes b l e in laid b l (right_header b p.0) p.1 few

@@ -1,4 +1,5 @@
 pub mod Finding
+pub mod Searching
 pub mod Headers
 pub mod Codes
 pub mod Scanning

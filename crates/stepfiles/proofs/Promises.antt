@@ -1,20 +1,23 @@
 -- A file passes every check exactly where it is a step file in the words of reachability, and what open and its view
 -- answer means just that. Assumes nothing.
-use Rattle.std.proofs.Common.{◌≡◌, ℕ, ◌<◌, ◌≤◌, Bool, true, false, cond, not, ◌&&◌, ltb, leb, List, [], ◌∷◌, ◌++◌, length, get_or, drop, is_some, is_ok, Some, None, Err, Decides, Option, sym, refl, ap, ◌∙◌, subst, arith, MatchResult}
+use Rattle.std.proofs.Common.{◌≡◌, ℕ, ◌<◌, ◌≤◌, Bool, true, false, cond, not, ◌&&◌, ltb, leb, List, [], ◌∷◌, ◌++◌, length, get_or, drop, is_some, is_ok, Some, None, Ok, Err, Result, Decides, Option, sym, refl, ap, ◌∙◌, subst, arith, MatchResult}
 use Rattle.std.specs.List.{AllByRecursion}
+use Rattle.std.specs.Result.{result_ok}
 use Rattle.std.proofs.lemmas.List.{get_or-map, get_or_append_left, length-map}
-use Rattle.std.proofs.lemmas.Bool.{leb-true, le-leb, and_parts, and_from, lt-ltb, eq-eqb, cond-true}
-use Rattle.languages.specs.declared.Mark.TheVariants.{Lost}
+use Rattle.std.proofs.lemmas.Bool.{leb-true, le-leb, and_parts, and_from, lt-ltb, cond-true}
+use Rattle.languages.specs.declared.marks.Mark.TheVariants.{Lost}
 use Rattle.languages.specs.Tables.{Closed}
-use Rattle.languages.specs.Marks.{number, worked}
+use Rattle.languages.specs.declared.marks.Mark.{Mark}
+use Rattle.languages.specs.declared.marks.UnknownMark.{UnknownMark}
+use Rattle.languages.specs.Marks.{number, NamesMark, worked}
 use Rattle.languages.proofs.Passing.{length-worked}
 use Rattle.languages.proofs.Standing.{marks_say_what_is_reached}
-use Rattle.refusals.specs.Questions.{numbered, refusing}
+use Rattle.refusals.specs.Questions.{numbered, refusing, first_no}
 use Rattle.refusals.specs.declared.Question.TheVariants.{ScratchRoom}
 use Rattle.refusals.specs.declared.Refusal.{Refusal}
 use Rattle.stepfiles.specs.Layout.{byte_at, word_at, rows_in, classes_in, row_at, target_at, table_in}
 use Rattle.stepfiles.specs.Coding.{decoded}
-use Rattle.stepfiles.specs.Opening.{first_no, header, bad_target, bad_target_in, bad_target_of, bad_mark, bad_mark_of, worked_in, Out, after_marks, after_targets, after_header, opened, step_file}
+use Rattle.stepfiles.specs.Opening.{header, bad_target, bad_target_in, bad_target_of, bad_mark, bad_mark_of, worked_in, Out, after_marks, after_targets, after_header, opened, step_file}
 use Rattle.stepfiles.specs.Proper.{IsMarkOf, StepFileBytes, MarksStand, CameToMarks, Means, MarkThere, TargetThere}
 use Rattle.stepfiles.specs.Views.{mark_in, successor}
 use Rattle.stepfiles.proofs.Checked.{Unrefused, unrefused, checked, closed}
@@ -58,14 +61,14 @@ no_bad_target : (b : List ℕ) → Closed (table_in b) → bad_target b ≡ None
 no_bad_target b rows =
     nothing (bad_target_in b) (rows_in b) (λ r row.
     nothing (bad_target_of b r) (classes_in b) (λ c class.
-    target_good b r c (target_at b r c) (rows_in b) refl refl (sym (lt-ltb (word_at b (target_at b r c)) (rows_in b) (rows r c row class)))))
+    target_good b r c (rows r c row class)))
 
 no_bad_mark : (b : List ℕ) → StepFileBytes b → bad_mark b (worked_in b) ≡ None
 no_bad_mark b h =
     nothing (bad_mark_of b (worked_in b)) (rows_in b) (λ r row.
     let m = h.marks r row in
     let only = (marks_say_what_is_reached (table_in b) h.targets).alone r m.0 row m.2 in
-    mark_good b (worked_in b) r (row_at b r) refl (sym (eq-eqb (byte_at b (row_at b r)) (get_or (worked_in b) r 0) (m.1 ∙ ap number only ∙ sym (worked-at b r row)))))
+    mark_good b (worked_in b) r (m.1 ∙ ap number only ∙ sym (worked-at b r row)))
 
 pub all_yes : (b : List ℕ) → StepFileBytes b → Unrefused b
 all_yes b h = record {
@@ -160,14 +163,21 @@ module _ (b s v : List ℕ) where
         marks = came_to_header (first_no (header b)) refl;
       }
 
--- the mark and the target of rows and classes that are there
-pub mark_there : (b : List ℕ) → step_file b ≡ true → (r : ℕ) → MarkThere b r (mark_in b r)
-mark_there b e r row =
-    let right = right_mark b (unrefused b e) r row in
-    let is = ap decoded right.1 ∙ decoded-number right.0 in
-    (right.0, cond-true (ltb r (rows_in b)) (Some (decoded (byte_at b (row_at b r)))) None (lt-ltb r (rows_in b) row) ∙ ap Some is, right.1, right.2)
+-- what a view answers about rows and classes that are there
+mark_in-row : (b : List ℕ) (r : ℕ) → r < rows_in b → mark_in b r ≡ Some (decoded (byte_at b (row_at b r)))
+mark_in-row b r row = cond-true (ltb r (rows_in b)) _ None (lt-ltb r (rows_in b) row)
 
-pub target_there : (b : List ℕ) → step_file b ≡ true → (r c : ℕ) → TargetThere b r c (successor b r c)
-target_there b e r c row class =
+pub mark_there : (b : List ℕ) → step_file b ≡ true → (r : ℕ) (o : Option Mark) → o ≡ mark_in b r → MarkThere b r o
+mark_there b e r o is row =
+    let right = right_mark b (unrefused b e) r row in
+    (right.0, is ∙ mark_in-row b r row ∙ ap Some (ap decoded right.1 ∙ decoded-number right.0), right.1, right.2)
+
+pub target_there : (b : List ℕ) → step_file b ≡ true → (r c : ℕ) (o : Option ℕ) → o ≡ successor b r c → TargetThere b r c o
+target_there b e r c o is row class =
     let both = and_from (ltb r (rows_in b)) (ltb c (classes_in b)) (lt-ltb r (rows_in b) row) (lt-ltb c (classes_in b) class) in
-    (word_at b (target_at b r c), cond-true (ltb r (rows_in b) && ltb c (classes_in b)) (Some (word_at b (target_at b r c))) None both, closed b (unrefused b e).targets_yes r c row class)
+    (word_at b (target_at b r c), is ∙ cond-true (ltb r (rows_in b) && ltb c (classes_in b)) _ None both, closed b (unrefused b e).targets_yes r c row class)
+
+-- a mark byte of a row that is there reads as the row's mark
+pub mark_read : (b : List ℕ) → step_file b ≡ true → (r : ℕ) → r < rows_in b → (m : Result Mark UnknownMark) → NamesMark (byte_at b (row_at b r)) m → result_ok m ≡ mark_in b r
+mark_read b e r row (Ok m) is = sym (mark_in-row b r row ∙ ap Some (ap decoded (sym is) ∙ decoded-number m))
+mark_read b e r row (Err f) is = let right = right_mark b (unrefused b e) r row in absurd (is.1 right.0 (sym right.1))

@@ -5,11 +5,13 @@
 --   row_at b r, target_at b r c   the place of row r, which begins with its mark, and of its target by class c
 --   text_in b                     the stored text
 --   table_in b                    the table: a row accepts where bit 0 of its mark is 1
---   Laid b l                      l is the layout of b, all of b's bytes have a place in it, and its numbers are small
+--   Laid b k r c p                k, r, c and p are the kind, the rows, the classes and the place of row 0 in b, all of b's
+--                                 bytes have a place in that layout, and its numbers are small
 -- Assumes nothing.
 use Rattle.std.specs.Prelude.{◌≡◌, ℕ, ◌+◌, ◌*◌, ◌≤◌, List, length, take, drop, ◌==◌, bit_and, slice_index}
 use Rattle.languages.specs.Tables.{Table}
-use Rattle.stepfiles.specs.declared.layout.Layout.{Layout}
+use Rattle.stepfiles.specs.declared.kind.Kind.{Kind}
+use Rattle.stepfiles.specs.Kinds.{kind_number}
 
 abbrev pub byte_at : List ℕ → ℕ → ℕ
 byte_at b p = slice_index b p
@@ -55,14 +57,12 @@ table_in b = record {
   accepts = λ r. (bit_and (byte_at b (row_at b r)) 1 == 1);
 }
 
-abbrev pub layout_in : List ℕ → Layout
-layout_in b = record { rows = rows_in b; classes = classes_in b; table = table_at b }
-
-pub record Laid (b : List ℕ) (l : Layout) : Type 0 where
-  pub rows : l.rows ≡ rows_in b
-  pub classes : l.classes ≡ classes_in b
-  pub table : l.table ≡ table_at b
-  pub whole : length b ≡ l.table + l.rows * (1 + 2 * l.classes)
-  pub few_rows : l.rows ≤ 1024
-  pub few_classes : l.classes ≤ 255
-  pub near : l.table ≤ 4107
+pub record Laid (b : List ℕ) (k : Kind) (r c p : ℕ) : Type 0 where
+  pub kind : kind_number k ≡ kind_in b
+  pub rows : r ≡ rows_in b
+  pub classes : c ≡ classes_in b
+  pub table : p ≡ table_at b
+  pub whole : length b ≡ p + r * (1 + 2 * c)
+  pub few_rows : r ≤ 1024
+  pub few_classes : c ≤ 255
+  pub near : p ≤ 4107

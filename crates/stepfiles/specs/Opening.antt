@@ -1,8 +1,6 @@
 -- What open asks, in its order, and what it leaves.
---   first_no qs      the refusal of the first question of a list whose answer is no
 --   first_below f n  the first thing that f finds at a number below n
 --   header b         the questions about the header, each with its answer
---   laid_out b       what the header answers: the layout, or the first refusal
 --   bad_target b     the place of the first target that is no row: bad_target_of one row and class, bad_target_in one row
 --   bad_mark b ms    the place of the first mark that is not the one in ms: bad_mark_of one row
 --   worked_in b      the numbers of the marks worked out from bit 0 of all marks
@@ -13,15 +11,10 @@
 -- Assumes nothing.
 use Rattle.std.specs.Prelude.{ℕ, zero, suc, ◌+◌, ◌*◌, Bool, cond, not, ◌&&◌, List, [], ◌∷◌, ◌++◌, map, length, drop, is_some, Some, None, Ok, Err, Option, Result, ◌==◌, nat_le, nat_lt, slice_index}
 use Rattle.languages.specs.Marks.{number, worked}
-use Rattle.refusals.specs.Questions.{refusing}
+use Rattle.refusals.specs.Questions.{refusing, first_no}
 use Rattle.refusals.specs.declared.Question.TheVariants.{FileLength, FileVersion, FileFields, TableLength, ScratchRoom, TargetInTable, MarkWorkedOut}
 use Rattle.refusals.specs.declared.Refusal.{Refusal}
-use Rattle.stepfiles.specs.declared.layout.Layout.{Layout}
-use Rattle.stepfiles.specs.Layout.{byte_at, word_at, length_in, version_in, kind_in, rows_in, classes_in, text_length_in, table_at, row_at, target_at, table_in, layout_in}
-
-abbrev pub first_no : List (Bool × Refusal) → Option Refusal
-first_no [] = None
-first_no (q ∷ qs) = cond q.0 (first_no qs) (Some q.1)
+use Rattle.stepfiles.specs.Layout.{byte_at, word_at, length_in, version_in, kind_in, rows_in, classes_in, text_length_in, table_at, row_at, target_at, table_in}
 
 abbrev pub either : {X : Type 0} → Option X → Option X → Option X
 either (Some x) later = Some x
@@ -42,13 +35,6 @@ header b =
     ∷ (nat_le 1 (text_length_in b) && nat_le (text_length_in b) 4096, refusing FileFields 9)
     ∷ ((length b == table_at b + rows_in b * (1 + 2 * classes_in b)), refusing TableLength 6)
     ∷ []
-
-abbrev pub laid_unless : Layout → Option Refusal → Result Layout Refusal
-laid_unless l None = Ok l
-laid_unless l (Some f) = Err f
-
-abbrev pub laid_out : List ℕ → Result Layout Refusal
-laid_out b = laid_unless (layout_in b) (first_no (header b))
 
 abbrev pub bad_target_of : List ℕ → ℕ → ℕ → Option ℕ
 bad_target_of b r c = cond (nat_lt (word_at b (target_at b r c)) (rows_in b)) None (Some (target_at b r c))

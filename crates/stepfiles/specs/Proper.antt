@@ -9,7 +9,7 @@
 --   TargetThere b r c o  o, a view's answer about row r and class c, is a row if there are such a row and such a class
 -- Assumes nothing.
 use Rattle.std.specs.Prelude.{◌≡◌, ℕ, ◌+◌, ◌*◌, ◌<◌, ◌≤◌, List, length, is_ok, Some, Ok, Err, Decides, Option, Result, MatchResult, slice_index}
-use Rattle.languages.specs.declared.Mark.{Mark}
+use Rattle.languages.specs.declared.marks.Mark.{Mark}
 use Rattle.languages.specs.Tables.{Closed}
 use Rattle.languages.specs.Marks.{number, Stands}
 use Rattle.refusals.specs.declared.Question.TheVariants.{MarkWorkedOut}

@@ -5,13 +5,13 @@
 --   built_in         the file of the rule `0`: one row, one class, lost
 -- Assumes nothing.
 use Rattle.std.specs.Prelude.{ℕ, cond, ◌&&◌, List, [], ◌∷◌, Some, None, Option, nat_lt}
-use Rattle.languages.specs.declared.Mark.{Mark}
+use Rattle.languages.specs.declared.marks.Mark.{Mark}
 use Rattle.stepfiles.specs.declared.file.StepFile.{StepFile}
 use Rattle.stepfiles.specs.Layout.{byte_at, word_at, rows_in, classes_in, row_at, target_at}
 use Rattle.stepfiles.specs.Coding.{decoded}
 
 abbrev pub viewed : StepFile → List ℕ
-viewed f = f.bytes.now
+viewed f = f.table.bytes.now
 
 abbrev pub mark_in : List ℕ → ℕ → Option Mark
 mark_in b r = cond (nat_lt r (rows_in b)) (Some (decoded (byte_at b (row_at b r)))) None

@@ -2,10 +2,12 @@
 ghost use Rattle.std.specs.Prelude.{◌≡◌, true};
 ghost use Rattle.stepfiles.specs.Opening.{step_file};
 
-/// A step file that passed every check of `open`. It is the caller's bytes themselves, so it costs a reference; what was
-/// checked of them is part of the type, and reading a row tests nothing again.
+use crate::table::Table;
+
+/// A step file that passed every check of `open`. It is the caller's bytes themselves, with what their header says; what
+/// was checked of them is part of the type, and reading a row tests nothing again.
 #[derive(Clone, Copy)]
 pub struct StepFile<'a> {
-    pub(crate) bytes: &'a [u8],
-    ghost checked: { step_file bytes.now ≡ true },
+    pub(crate) table: Table<'a>,
+    ghost checked: { step_file table.bytes.now ≡ true },
 }

@@ -1,42 +1,54 @@
 //! The questions about a file's header.
-ghost use Rattle.std.specs.Prelude.{◌≡◌, ◌≤◌, IfOk};
-ghost use Rattle.stepfiles.specs.Opening.{laid_out};
+ghost use Rattle.std.specs.Prelude.{◌≡◌, IfOk};
+ghost use Rattle.std.specs.Result.{result_err};
+ghost use Rattle.refusals.specs.Questions.{first_no};
+ghost use Rattle.stepfiles.specs.Opening.{header};
 
-use crate::layout::{HEADER, Layout, MOST_ROWS, layout_of};
+use crate::kind::Kind;
+use crate::table::{HEADER, MOST_ROWS, Table};
 use refusals::{Question, Refusal};
 
 const LONGEST_TEXT: usize = 4096;
 
-/// The layout, if the header's fields are in their ranges and speak of just these bytes.
-pub(crate) fn check_header(bytes: &[u8]) -> Result<Layout, Refusal>
-    ensures value { result ≡ laid_out bytes.now }
-    ensures few { IfOk result (λ l. l.classes ≤ 255) }
+/// The table, if the header's fields are in their ranges and speak of just these bytes.
+pub(crate) fn check_header(bytes: &[u8]) -> Result<Table<'_>, Refusal>
+    ensures first { result_err result ≡ first_no (header bytes.now) }
+    ensures same { IfOk result (λ t. t.bytes.now ≡ bytes.now) }
 {
-    if bytes.len() < HEADER {
+    let &[l3, l2, l1, l0, version, kind, r1, r0, classes, t1, t0, ..] = bytes else {
         return Err(Question::FileLength.at(0));
-    }
-    let length = u32::from_be_bytes([bytes[0], bytes[1], bytes[2], bytes[3]]);
+    };
+    let length = u32::from_be_bytes([l3, l2, l1, l0]);
     if length as usize != bytes.len() {
         return Err(Question::FileLength.at(0));
     }
-    if bytes[4] != 1 {
+    if version != 1 {
         return Err(Question::FileVersion.at(4));
     }
-    if bytes[5] < 1 || bytes[5] > 2 {
+    let Ok(kind) = Kind::try_from(kind) else {
         return Err(Question::FileFields.at(5));
-    }
-    let layout = layout_of(bytes);
-    if layout.rows < 1 || layout.rows > MOST_ROWS {
+    };
+    let rows = usize::from(u16::from_be_bytes([r1, r0]));
+    if !(1..=MOST_ROWS).contains(&rows) {
         return Err(Question::FileFields.at(6));
     }
-    if layout.classes < 1 {
+    let classes = usize::from(classes);
+    if classes < 1 {
         return Err(Question::FileFields.at(8));
     }
-    if layout.table < HEADER + 1 || layout.table > HEADER + LONGEST_TEXT {
+    let text = usize::from(u16::from_be_bytes([t1, t0]));
+    if !(1..=LONGEST_TEXT).contains(&text) {
         return Err(Question::FileFields.at(9));
     }
-    if bytes.len() != layout.table + layout.rows * (1 + 2 * layout.classes) {
+    let start = HEADER + text;
+    if bytes.len() != start + rows * (1 + 2 * classes) {
         return Err(Question::TableLength.at(6));
     }
-    Ok(layout)
+    Ok(Table {
+        bytes,
+        kind,
+        rows,
+        classes,
+        start,
+    })
 }

@@ -3,13 +3,15 @@
 
 mod file;
 mod header;
-mod layout;
+mod kind;
 mod marks;
 mod opening;
+mod table;
 mod targets;
 mod view;
 
 pub use file::StepFile;
+pub use kind::{Kind, UnknownKind};
 pub use languages::Mark;
-pub use layout::MOST_ROWS;
 pub use opening::open;
+pub use table::MOST_ROWS;

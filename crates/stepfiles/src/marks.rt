@@ -1,89 +1,113 @@
 //! Working out the marks of all rows from which rows accept: each row's mark takes up what its targets' marks say, in
 //! passes over the table, until a pass changes nothing. And the question whether a file's marks are those.
 ghost use Rattle.std.specs.Prelude.{◌≡◌, ◌<◌, true, false, map, length, ◌==◌, bit_and, bit_or};
-ghost use Rattle.languages.specs.Tables.{Closed};
-ghost use Rattle.languages.specs.Marks.{number, gathered, passed_below, begun};
-ghost use Rattle.stepfiles.specs.Layout.{byte_at, Laid, rows_in, table_in};
-ghost use Rattle.stepfiles.specs.Coding.{marks_in, Coded};
-ghost use Rattle.stepfiles.specs.Opening.{worked_in, bad_mark};
+ghost use Rattle.languages.specs.Marks.{number, first, gathered, passed_below, begun};
+ghost use Rattle.stepfiles.specs.Layout.{table_in};
+ghost use Rattle.stepfiles.specs.Coding.{marks_in, MarksOf};
+ghost use Rattle.stepfiles.specs.Closed.{table_of};
+ghost use Rattle.stepfiles.specs.Opening.{worked_in, bad_mark_of, bad_mark};
 
-use crate::layout::{Layout, row_place, word_at};
+use crate::table::Table;
+use crate::targets::ClosedTable;
 use languages::Mark;
 
 /// The bits of a mark that a row takes over from its targets.
 const SEEN: u8 = 6;
 
-/// Leaves in `marks` the mark of each row.
-pub(crate) fn work_out(bytes: &[u8], layout: Layout, marks: &mut [u8])
-    requires laid { Laid bytes.now layout }
-    requires closed { Closed (table_in bytes.now) }
-    requires room { length marks.old ≡ layout.rows }
-    ensures { marks.new ≡ worked_in bytes.now }
-{
-    begin(bytes, layout, marks);
-    let rows = layout.rows;
-    for _pass in 0..rows {
-        if !pass(bytes, layout, marks) {
-            return;
+impl Table<'_> {
+    /// The mark of a row when only is known whether it accepts.
+    fn first_mark(&self, row: usize) -> Mark
+        requires { row < self.now.rows }
+        ensures { result ≡ first ((table_in self.now.bytes.now).accepts row) }
+    {
+        if self.mark(row) & 1 == 1 {
+            Mark::Settled
+        } else {
+            Mark::Lost
         }
     }
 }
 
-/// The marks when of each row only is known whether it accepts.
-fn begin(bytes: &[u8], layout: Layout, marks: &mut [u8])
-    requires laid { Laid bytes.now layout }
-    requires room { length marks.old ≡ layout.rows }
-    ensures { marks.new ≡ map number (begun (table_in bytes.now)) }
-{
-    let rows = layout.rows;
-    for row in 0..rows {
-        let accepts = bytes[row_place(bytes, layout, row)] & 1 == 1;
-        let mark = if accepts { Mark::Settled } else { Mark::Lost };
-        marks[row] = mark.number();
+impl ClosedTable<'_> {
+    /// Leaves in `marks` the mark of each row.
+    pub fn work_out(&self, marks: &mut [u8])
+        requires { length marks.old ≡ self.now.table.rows }
+        ensures { marks.new ≡ worked_in self.now.table.bytes.now }
+    {
+        self.begin(marks);
+        for _pass in 0..self.table.rows {
+            if !self.pass(marks) {
+                return;
+            }
+        }
+    }
+
+    /// The marks when of each row only is known whether it accepts.
+    fn begin(&self, marks: &mut [u8])
+        requires { length marks.old ≡ self.now.table.rows }
+        ensures { marks.new ≡ map number (begun (table_of self.now)) }
+    {
+        for (row, mark) in marks.iter_mut().enumerate() {
+            *mark = self.table.first_mark(row).number();
+        }
+    }
+
+    /// One pass over all rows, the last first, since most targets stand behind their rows. Tells whether a mark changed.
+    fn pass(&self, marks: &mut [u8]) -> bool
+        requires { MarksOf (table_of self.now) marks.old }
+        ensures marks { MarksOf (table_of self.now) marks.new }
+        ensures passed { marks_in marks.new ≡ passed_below (table_of self.now) (table_of self.now).rows (marks_in marks.old) }
+        ensures still { result ≡ false → marks.new ≡ marks.old }
+    {
+        let mut changed = false;
+        for row in (0..self.table.rows).rev() {
+            let mark = self.gather(marks, row);
+            if mark != marks[row] {
+                marks[row] = mark;
+                changed = true;
+            }
+        }
+        changed
+    }
+
+    /// The mark of a row once it has taken up what the marks of its targets say.
+    fn gather(&self, marks: &[u8], row: usize) -> u8
+        requires marks { MarksOf (table_of self.now) marks.now }
+        requires within { row < self.now.table.rows }
+        ensures { result ≡ number (gathered (table_of self.now) (marks_in marks.now) row (table_of self.now).classes) }
+    {
+        let mut mark = marks[row];
+        for class in 0..self.table.classes {
+            if is_full(mark) {
+                return mark;
+            }
+            mark = taken_up(mark, marks[self.table.target(row, class)]);
+        }
+        mark
+    }
+
+    /// The place of the first mark that is not the one worked out.
+    pub fn bad_mark(&self, marks: &[u8]) -> Option<usize>
+        requires { length marks.now ≡ self.now.table.rows }
+        ensures { result ≡ bad_mark self.now.table.bytes.now marks.now }
+    {
+        (0..self.table.rows).find_map(|row| self.table.bad_mark_of(marks, row))
     }
 }
 
-/// One pass over all rows, the last first, since most targets stand behind their rows. Tells whether a mark changed.
-fn pass(bytes: &[u8], layout: Layout, marks: &mut [u8]) -> bool
-    requires laid { Laid bytes.now layout }
-    requires closed { Closed (table_in bytes.now) }
-    requires room { length marks.old ≡ layout.rows }
-    requires coded { Coded marks.old }
-    ensures coded { Coded marks.new }
-    ensures passed { marks_in marks.new ≡ passed_below (table_in bytes.now) (rows_in bytes.now) (marks_in marks.old) }
-    ensures still { result ≡ false → marks.new ≡ marks.old }
-{
-    let mut changed = false;
-    let rows = layout.rows;
-    for row in (0..rows).rev() {
-        let mark = gather(bytes, layout, marks, row);
-        if mark != marks[row] {
-            marks[row] = mark;
-            changed = true;
+impl Table<'_> {
+    /// The place of a row's mark, if it is not the one worked out.
+    fn bad_mark_of(&self, marks: &[u8], row: usize) -> Option<usize>
+        requires row { row < self.now.rows }
+        requires marks { length marks.now ≡ self.now.rows }
+        ensures { result ≡ bad_mark_of self.now.bytes.now marks.now row }
+    {
+        if self.mark(row) == marks[row] {
+            None
+        } else {
+            Some(self.row_place(row))
         }
     }
-    changed
-}
-
-/// The mark of a row once it has taken up what the marks of its targets say.
-fn gather(bytes: &[u8], layout: Layout, marks: &[u8], row: usize) -> u8
-    requires laid { Laid bytes.now layout }
-    requires closed { Closed (table_in bytes.now) }
-    requires room { length marks.now ≡ layout.rows }
-    requires coded { Coded marks.now }
-    requires within { row < layout.rows }
-    ensures { result ≡ number (gathered (table_in bytes.now) (marks_in marks.now) row layout.classes) }
-{
-    let targets = row_place(bytes, layout, row) + 1;
-    let mut mark = marks[row];
-    let classes = layout.classes;
-    for class in 0..classes {
-        if is_full(mark) {
-            return mark;
-        }
-        mark = taken_up(mark, marks[word_at(bytes, targets + 2 * class)]);
-    }
-    mark
 }
 
 /// Whether a mark has both bits already, so that no target can add one.
@@ -98,27 +122,4 @@ fn taken_up(mark: u8, target: u8) -> u8
     ensures { result ≡ bit_or mark (bit_and target 6) }
 {
     mark | target & SEEN
-}
-
-/// The place of the first mark that is not the one worked out.
-pub(crate) fn bad_mark(bytes: &[u8], layout: Layout, marks: &[u8]) -> Option<usize>
-    requires laid { Laid bytes.now layout }
-    requires room { length marks.now ≡ layout.rows }
-    ensures { result ≡ bad_mark bytes.now marks.now }
-{
-    let rows = layout.rows;
-    for row in 0..rows {
-        let place = row_place(bytes, layout, row);
-        if !is_mark(bytes, place, marks[row]) {
-            return Some(place);
-        }
-    }
-    None
-}
-
-fn is_mark(bytes: &[u8], place: usize, mark: u8) -> bool
-    requires { place < length bytes.now }
-    ensures { result ≡ ((byte_at bytes.now place) == mark) }
-{
-    bytes[place] == mark
 }

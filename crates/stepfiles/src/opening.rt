@@ -6,8 +6,6 @@ ghost use Rattle.stepfiles.specs.Views.{viewed};
 
 use crate::file::StepFile;
 use crate::header::check_header;
-use crate::marks::{bad_mark, work_out};
-use crate::targets::bad_target;
 use refusals::{Question, Refusal};
 
 /// Fills `place` with a view of `bytes` if they are a step file, and leaves it as it was if they are not. `scratch` needs
@@ -27,19 +25,17 @@ pub fn open<'a>(
 fn fill<'a>(bytes: &'a [u8], scratch: &mut [u8], place: &mut StepFile<'a>) -> Result<(), Refusal>
     ensures { ◌≡◌ {A = Out} (result, viewed place.new, scratch.new) (opened bytes.now scratch.old (viewed place.old)) }
 {
-    let layout = check_header(bytes)?;
-    if scratch.len() < layout.rows {
+    let table = check_header(bytes)?;
+    let rows = table.rows;
+    if scratch.len() < rows {
         return Err(Question::ScratchRoom.at(0));
     }
-    if let Some(at) = bad_target(bytes, layout) {
-        return Err(Question::TargetInTable.at(at));
-    }
-    let rows = layout.rows;
-    let marks = &mut scratch[0..rows];
-    work_out(bytes, layout, marks);
-    if let Some(at) = bad_mark(bytes, layout, marks) {
+    let closed = table.closed()?;
+    let marks = &mut scratch[..rows];
+    closed.work_out(marks);
+    if let Some(at) = closed.bad_mark(marks) {
         return Err(Question::MarkWorkedOut.at(at));
     }
-    *place = StepFile { bytes };
+    *place = StepFile { table };
     Ok(())
 }

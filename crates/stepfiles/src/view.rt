@@ -1,12 +1,13 @@
 //! What an opened step file tells.
 ghost use Rattle.std.specs.Prelude.{◌≡◌};
-ghost use Rattle.stepfiles.specs.Coding.{decoded};
+ghost use Rattle.stepfiles.specs.Kinds.{kind_number};
 ghost use Rattle.stepfiles.specs.Layout.{kind_in, rows_in, classes_in, text_in};
 ghost use Rattle.stepfiles.specs.Proper.{MarkThere, TargetThere};
 ghost use Rattle.stepfiles.specs.Views.{viewed, mark_in, successor, built_in};
 
 use crate::file::StepFile;
-use crate::layout::{HEADER, layout_of, row_place, word_at};
+use crate::kind::Kind;
+use crate::table::{HEADER, Table};
 use languages::Mark;
 
 /// The file of the rule `0`, which no list meets.
@@ -17,34 +18,41 @@ impl<'a> StepFile<'a> {
     pub fn built_in() -> StepFile<'a>
         ensures { viewed result ≡ built_in }
     {
-        StepFile { bytes: &BUILT_IN }
+        StepFile {
+            table: Table {
+                bytes: &BUILT_IN,
+                kind: Kind::Bytes,
+                rows: 1,
+                classes: 1,
+                start: 12,
+            },
+        }
     }
 
-    /// The kind number of the alphabet that the file was built over: 1 bytes, 2 bench events.
-    pub fn kind(&self) -> u8
-        ensures { result ≡ kind_in (viewed self.now) }
+    /// The kind of the alphabet that the file was built over.
+    pub fn kind(&self) -> Kind
+        ensures { kind_number result ≡ kind_in (viewed self.now) }
     {
-        self.bytes[5]
+        self.table.kind
     }
 
     pub fn row_count(&self) -> usize
         ensures { result ≡ rows_in (viewed self.now) }
     {
-        word_at(self.bytes, 6)
+        self.table.rows
     }
 
     pub fn class_count(&self) -> usize
         ensures { result ≡ classes_in (viewed self.now) }
     {
-        usize::from(self.bytes[8])
+        self.table.classes
     }
 
     /// The rule text that was stored with the table; nothing was asked of it but its length.
     pub fn text(&self) -> &'a [u8]
         ensures { result.now ≡ text_in (viewed self.now) }
     {
-        let end = layout_of(self.bytes).table;
-        &self.bytes[HEADER..end]
+        &self.table.bytes[HEADER..self.table.start]
     }
 
     /// The mark of a row.
@@ -52,11 +60,10 @@ impl<'a> StepFile<'a> {
         ensures value { result ≡ mark_in (viewed self.now) row }
         ensures there { MarkThere (viewed self.now) row result }
     {
-        let layout = layout_of(self.bytes);
-        if row >= layout.rows {
+        if row >= self.table.rows {
             return None;
         }
-        Some(decode(self.bytes[row_place(self.bytes, layout, row)]))
+        Mark::try_from(self.table.mark(row)).ok()
     }
 
     /// The row to which a class leads from a row.
@@ -64,23 +71,9 @@ impl<'a> StepFile<'a> {
         ensures value { result ≡ successor (viewed self.now) row class }
         ensures there { TargetThere (viewed self.now) row class result }
     {
-        let layout = layout_of(self.bytes);
-        if row >= layout.rows || class >= layout.classes {
+        if row >= self.table.rows || class >= self.table.classes {
             return None;
         }
-        let place = row_place(self.bytes, layout, row) + 1 + 2 * class;
-        Some(word_at(self.bytes, place))
-    }
-}
-
-/// The mark of a mark byte, which in a checked file is a mark's number.
-fn decode(byte: u8) -> Mark
-    ensures { result ≡ decoded byte }
-{
-    match byte {
-        3 => Mark::Settled,
-        7 => Mark::Holds,
-        6 => Mark::Open,
-        _ => Mark::Lost,
+        Some(self.table.target(row, class))
     }
 }

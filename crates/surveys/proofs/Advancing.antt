@@ -33,8 +33,8 @@ beyond_passed h f None p q is = refl
 beyond_passed h f (Some t) p q is = cond-false _ _ _ is
 
 module _ (s : Reader) (at : ℕ) (l : Lexeme) (seen : sighted (Ok l) ≡ lexed_at s.text.now at) where
-  pub after-beyond : (eqb (sign_of (token_of l.token)) 91 && eqb l.place s.horizon) ≡ true → bad (refusing AtomCount l.place) ≡ after s at
-  after-beyond is =
+  pub after_refused : (eqb (sign_of (token_of l.token)) 91 && eqb l.place s.horizon) ≡ true → bad (refusing AtomCount l.place) ≡ after s at
+  after_refused is =
       sym (ap (within s.horizon) (sighted_on s.text.now at (Ok l) seen) ∙ beyond_refused s.horizon (lexed_from s.text.now) (token_of l.token) l.place l.after is)
 
   pub after_token : (eqb (sign_of (token_of l.token)) 91 && eqb l.place s.horizon) ≡ false → standing s l ≡ after s at

@@ -1,4 +1,3 @@
-pub mod Parting
 pub mod Known
 pub mod Advancing
 pub mod Spelling

@@ -1,6 +1,7 @@
 -- The entries of a text's atoms.
 --   text_at text e      the bytes that the entry e speaks of
 --   texts_in text es    those of each entry
+--   numbered text es s  the number of the first of the entries es that speaks of s, if there is one
 --   entry_at p s        the entry of a bracket at the place p with the bytes s inside
 --   entries_in known t p    the entry of the token t at the place p, if it is a bracket that is none of the known texts
 --   entries_from known ts   the entries of the brackets of ts that are none of the known texts, each where it is first met
@@ -8,9 +9,10 @@
 --   listed a            the entries of the atoms in use
 --   Meeting             whether a bracket is an atom, and the entries afterwards
 --   meeting text es p s    meeting a bracket at the place p with the bytes s, where es are known; 32 at the most
---   taking text es p t     meeting the token t at the place p: only a bracket is an atom. No at the end too
+--   taking text es p t     meeting the token t at the place p: only a bracket is an atom
 -- Assumes nothing.
-use Rattle.std.specs.Prelude.{ℕ, ◌+◌, Bool, true, false, cond, List, [], ◌∷◌, ◌++◌, map, length, take, drop, Some, None, Option, nat_lt}
+use Rattle.std.specs.Prelude.{ℕ, ◌+◌, Bool, true, false, cond, List, [], ◌∷◌, ◌++◌, map, length, take, drop, Some, None, Option, nat_lt, position}
+use Rattle.std.specs.Str.{bytes_eq}
 use Rattle.grammar.specs.Atoms.{among, met_in}
 use Rattle.grammar.specs.Tokens.{Token, bar, ampersand, bang, asterisk, opening, closing, nought, one, dot, bracket, Lexed, end, bad, token}
 use Rattle.surveys.specs.declared.entry.Entry.{Entry}
@@ -21,6 +23,9 @@ text_at text e = take e.length (drop e.place text)
 
 abbrev pub texts_in : List ℕ → List Entry → List (List ℕ)
 texts_in text es = map (text_at text) es
+
+abbrev pub numbered : List ℕ → List Entry → List ℕ → Option ℕ
+numbered text es s = position (λ e. bytes_eq (text_at text e) s) es
 
 abbrev pub entry_at : ℕ → List ℕ → Entry
 entry_at p s = record { place = p + 1; length = length s }
@@ -46,7 +51,7 @@ abbrev pub entries : Lexed → List Entry
 entries ts = entries_from [] ts
 
 abbrev pub listed : Atoms → List Entry
-listed a = take a.count a.entries
+listed a = a
 
 abbrev pub Meeting : Type 0
 Meeting = Bool × List Entry
@@ -57,7 +62,7 @@ meeting text es p s =
     (cond (nat_lt (length es) 32) (true, es ++ (entry_at p s ∷ [])) (false, es))
 
 abbrev pub taking : List ℕ → List Entry → ℕ → Option Token → Meeting
-taking text es p None = (false, es)
+taking text es p None = (true, es)
 taking text es p (Some bar) = (true, es)
 taking text es p (Some ampersand) = (true, es)
 taking text es p (Some bang) = (true, es)

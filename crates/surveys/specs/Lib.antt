@@ -1,3 +1,4 @@
 pub mod Entries
 pub mod Looking
+pub mod Lexemes
 pub mod Surveying

@@ -5,11 +5,9 @@ use Rattle.std.specs.Prelude.{◌≡◌, ℕ, List, take}
 use Rattle.grammar.specs.Atoms.{horizon_in}
 use Rattle.grammar.specs.Lexing.{lexed}
 use Rattle.surveys.specs.declared.reader.Reader.{Reader}
-use Rattle.surveys.specs.declared.reader.Pass.TheVariants.{Check}
 use Rattle.surveys.specs.Entries.{entries, listed}
 
 pub record Surveyed (text : List ℕ) (s : Reader) : Type 0 where
   pub text_is : s.text.now ≡ text
   pub atoms_are : listed s.atoms ≡ take 32 (entries (lexed text))
   pub horizon-is : s.horizon ≡ horizon_in text
-  pub pass_is : s.pass ≡ Check

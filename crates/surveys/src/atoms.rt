@@ -1,15 +1,86 @@
-//! The atoms of a text, as they are kept while it is read.
-ghost use Rattle.std.specs.Prelude.{◌≡◌, length};
+//! The atoms of a text, numbered as they are first met.
+ghost use Rattle.std.specs.Prelude.{◌≡◌, ◌<◌, ◌≤◌, [], IfSome, length};
+ghost use Rattle.surveys.specs.Entries.{Meeting, listed, meeting, numbered};
 
 use crate::entry::Entry;
+use std::marker::Model;
 
 /// The most atoms of a text.
 pub const MOST_ATOMS: usize = 32;
 
-/// Atoms by number: the places in use are the first `count`.
-#[derive(Clone, Copy)]
+/// Atoms by number: the places in use are the first `count`. Clauses see the entries in use.
+#[derive(Drop)]
 pub struct Atoms {
-    pub entries: [Entry; MOST_ATOMS],
-    pub count: usize,
-    ghost places: { length entries ≡ 32 },
+    entries: [Entry; MOST_ATOMS],
+    count: usize,
+}
+
+impl Model for Atoms {
+    ghost use Rattle.std.specs.Prelude.{◌≡◌, ◌≤◌, List, length, take};
+    ghost use Rattle.surveys.specs.declared.entry.Entry.{Entry};
+
+    ghost Value = { List Entry };
+
+    ghost view = { λ a. take a.count a.entries };
+
+    ghost invariant = { λ a. (a.count ≤ 32) × (length a.entries ≡ 32) };
+}
+
+impl Atoms {
+    /// No atom yet.
+    pub(crate) fn new() -> Atoms
+        ensures { listed result ≡ [] }
+    {
+        Atoms {
+            entries: [Entry::default(); MOST_ATOMS],
+            count: 0,
+        }
+    }
+
+    /// The entries of the atoms, by number.
+    pub fn as_slice(&self) -> &[Entry]
+        ensures value { result.now ≡ listed self.now }
+        ensures most { length result.now ≤ 32 }
+    {
+        &self.entries[..self.count]
+    }
+
+    /// How many atoms there are.
+    pub fn used(&self) -> usize
+        ensures value { result ≡ length (listed self.now) }
+        ensures most { result ≤ 32 }
+    {
+        self.as_slice().len()
+    }
+
+    /// The number of the first atom that is written as `inside`, if there is one.
+    pub fn number(&self, text: &[u8], inside: &[u8]) -> Option<usize>
+        ensures value { result ≡ numbered text.now (listed self.now) inside.now }
+        ensures most { IfSome result (λ n. n < 32) }
+    {
+        self.as_slice()
+            .iter()
+            .position(|entry| entry.of(text) == inside)
+    }
+
+    /// Meets the bracket at `place` with the bytes `inside`: one that is met for the first time is the next atom. Says
+    /// no, and keeps all as it was, where that would be one too many.
+    #[tactic(auto, using(crate::proofs::Known::met_known, crate::proofs::Known::met_full, crate::proofs::Known::met_new))]
+    pub(crate) fn meet(&mut self, text: &[u8], place: usize, inside: &[u8]) -> bool
+        requires { place < length text.now }
+        ensures { ◌≡◌ {A = Meeting} (result, listed self.new) (meeting text.now (listed self.old) place inside.now) }
+    {
+        if self.number(text, inside).is_some() {
+            return true;
+        }
+        if self.count == MOST_ATOMS {
+            return false;
+        }
+        self.entries[self.count] = Entry {
+            place: place + 1,
+            length: inside.len(),
+        };
+        self.count += 1;
+        true
+    }
 }

@@ -3,13 +3,13 @@
 
 mod atoms;
 mod entry;
+mod lexemes;
 mod looking;
-mod meeting;
 mod reader;
 mod scan;
 
 pub use atoms::{Atoms, MOST_ATOMS};
 pub use entry::Entry;
 pub use looking::{advance, begins, sign_of};
-pub use reader::{Pass, Reader};
+pub use reader::Reader;
 pub use scan::survey;

@@ -1,9 +1,9 @@
 //! Looking at the tokens of a text.
-ghost use Rattle.std.specs.Prelude.{◌≡◌, ◌≤◌, ◌&&◌, length, ◌==◌};
+ghost use Rattle.std.specs.Prelude.{◌≡◌, ◌≤◌, ◌&&◌, length, option_map, ◌==◌};
 ghost use Rattle.grammar.specs.Atoms.{within};
 ghost use Rattle.grammar.specs.Lexing.{lexed_at, lexed_from};
 ghost use Rattle.grammar.specs.Sighting.{sighted, token_of};
-ghost use Rattle.grammar.specs.Tokens.{begins_some, sign_of};
+ghost use Rattle.grammar.specs.Tokens.{begins_some, sign, sign_of};
 ghost use Rattle.surveys.specs.Looking.{LiesAt, after, told};
 
 use crate::reader::Reader;
@@ -19,6 +19,7 @@ pub(crate) fn look<'t>(text: &'t [u8], at: usize) -> Result<Lexeme<'t>, Refusal>
 }
 
 /// The same, where a bracket that would be one atom too many is refused.
+#[tactic(auto, using(crate::proofs::Advancing::after_bad, crate::proofs::Advancing::after_refused, crate::proofs::Advancing::after_token))]
 pub fn advance<'t>(reader: &Reader<'t>, at: usize) -> Result<Lexeme<'t>, Refusal>
     ensures told { told reader.now result ≡ after reader.now at }
     ensures lies { LiesAt reader.now.text.now at result }
@@ -34,25 +35,25 @@ pub fn advance<'t>(reader: &Reader<'t>, at: usize) -> Result<Lexeme<'t>, Refusal
 fn is_beyond(reader: &Reader, lexeme: Lexeme) -> bool
     ensures { result ≡ (sign_of (token_of lexeme.entry.token) == 91 && lexeme.entry.place == reader.now.horizon) }
 {
-    sign_of(lexeme.token) == b'[' && lexeme.place == reader.horizon
+    matches!(lexeme.token, Token::Bracket(_)) && lexeme.place == reader.horizon
 }
 
-/// The byte that a token begins with; 0 at the end.
-pub fn sign_of(token: Token) -> u8
-    ensures { result ≡ sign_of (token_of token.entry) }
+/// The byte that a token begins with, if it is not the end.
+pub fn sign_of(token: Token) -> Option<u8>
+    ensures { result ≡ option_map sign (token_of token.entry) }
 {
     match token {
-        Token::Bar => b'|',
-        Token::Ampersand => b'&',
-        Token::Bang => b'!',
-        Token::Asterisk => b'*',
-        Token::Opening => b'(',
-        Token::Closing => b')',
-        Token::Nought => b'0',
-        Token::One => b'1',
-        Token::Dot => b'.',
-        Token::Bracket(_) => b'[',
-        Token::End => 0,
+        Token::Bar => Some(b'|'),
+        Token::Ampersand => Some(b'&'),
+        Token::Bang => Some(b'!'),
+        Token::Asterisk => Some(b'*'),
+        Token::Opening => Some(b'('),
+        Token::Closing => Some(b')'),
+        Token::Nought => Some(b'0'),
+        Token::One => Some(b'1'),
+        Token::Dot => Some(b'.'),
+        Token::Bracket(_) => Some(b'['),
+        Token::End => None,
     }
 }
 
@@ -60,13 +61,8 @@ pub fn sign_of(token: Token) -> u8
 pub fn begins(token: Token) -> bool
     ensures { result ≡ begins_some (token_of token.entry) }
 {
-    match token {
-        Token::Bang
-        | Token::Opening
-        | Token::Nought
-        | Token::One
-        | Token::Dot
-        | Token::Bracket(_) => true,
-        Token::Bar | Token::Ampersand | Token::Asterisk | Token::Closing | Token::End => false,
-    }
+    matches!(
+        token,
+        Token::Bang | Token::Opening | Token::Nought | Token::One | Token::Dot | Token::Bracket(_)
+    )
 }

@@ -1,39 +1,48 @@
 //! Finding the atoms of a text before it is read.
 ghost use Rattle.std.specs.Prelude.{◌≡◌};
-ghost use Rattle.surveys.specs.Entries.{listed};
+ghost use Rattle.grammar.specs.Sighting.{token_of};
+ghost use Rattle.surveys.specs.Entries.{Meeting, listed, taking};
+ghost use Rattle.surveys.specs.Looking.{Stands};
 ghost use Rattle.surveys.specs.Surveying.{Surveyed};
-ghost use Rattle.surveys.specs.declared.reader.Pass.TheVariants.{Check};
 
 use crate::atoms::Atoms;
-use crate::looking::look;
-use crate::reader::{Pass, Reader};
+use crate::lexemes::Lexemes;
+use crate::reader::Reader;
+use grammar::{Lexeme, Token};
 
 /// The atoms of a text up to the one that is too many, or else up to the end or to where no token can be told.
 pub fn survey<'t>(text: &'t [u8]) -> Reader<'t>
     ensures { Surveyed text.now result }
 {
     let mut atoms = Atoms::new();
-    let mut at = 0;
-    while let Ok(lexeme) = look(text, at) {
-        if !atoms.take(text, lexeme) {
+    for lexeme in Lexemes::of(text) {
+        if !take(&mut atoms, text, lexeme) {
             return reader(text, atoms, lexeme.place);
         }
-        at = lexeme.after;
     }
     reader(text, atoms, text.len())
 }
 
-/// What a text is read with, at first to check it.
+/// Meets a token, which is an atom only if it is a bracket. Says no where that would be one too many.
+fn take(atoms: &mut Atoms, text: &[u8], lexeme: Lexeme) -> bool
+    requires { Stands text.now lexeme }
+    ensures { ◌≡◌ {A = Meeting} (result, listed atoms.new) (taking text.now (listed atoms.old) lexeme.entry.place (token_of lexeme.entry.token)) }
+{
+    match lexeme.token {
+        Token::Bracket(inside) => atoms.meet(text, lexeme.place, inside),
+        _ => true,
+    }
+}
+
+/// What a text is read with.
 fn reader<'t>(text: &'t [u8], atoms: Atoms, horizon: usize) -> Reader<'t>
     ensures text { result.text.now ≡ text.now }
     ensures atoms { listed result.atoms ≡ listed atoms }
     ensures horizon { result.horizon ≡ horizon }
-    ensures pass { result.pass ≡ Check }
 {
     Reader {
         text,
         atoms,
         horizon,
-        pass: Pass::Check,
     }
 }

@@ -1,5 +1,5 @@
 //! Cases: a text, and the memory that it is read into.
-use anyhow::Context;
+use anyhow::{Context, ensure};
 use std::alloc::Global;
 
 #[derive(Drop)]
@@ -24,23 +24,12 @@ impl Case {
     }
 }
 
-/// The bytes that pairs of hexadecimal digits give; a lone dash gives none.
+/// The bytes that pairs of hexadecimal digits give; a lone dash gives none, and so does a last digit without another.
 fn bytes_of(heap: Global, word: &str) -> anyhow::Result<Vec<u8>> {
-    let mut bytes = Vec::new(heap);
-    if word == "-" {
-        return Ok(bytes);
-    }
-    let mut high = None;
-    for digit in word.chars() {
-        let value = digit.to_digit(16).context("no hexadecimal digit")?;
-        match high {
-            None => high = Some(value),
-            Some(above) => {
-                let byte = above.wrapping_mul(16).wrapping_add(value);
-                bytes.push(u8::try_from(byte).unwrap_or(0))?;
-                high = None;
-            }
-        }
-    }
-    Ok(bytes)
+    let digits = if word == "-" { "" } else { word }.as_bytes();
+    ensure!(
+        digits.iter().all(u8::is_ascii_hexdigit),
+        "no hexadecimal digit"
+    );
+    Ok(hex::decode(heap, &digits[..digits.len() / 2 * 2])?)
 }

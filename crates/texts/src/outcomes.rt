@@ -28,10 +28,10 @@ pub fn of_reading(heap: Global, case: &Case) -> anyhow::Result<String> {
         atoms.as_mut_slice(),
     );
     let mut line = answered(heap, answer)?;
-    for node in pool.iter().take(nodes_changed(pool.as_slice())) {
+    for node in changed(pool.as_slice(), &STALE_NODE) {
         add_node(&mut line, *node)?;
     }
-    for entry in atoms.iter().take(entries_changed(atoms.as_slice())) {
+    for entry in changed(atoms.as_slice(), &STALE_ENTRY) {
         add_entry(&mut line, *entry)?;
     }
     Ok(line)
@@ -40,10 +40,7 @@ pub fn of_reading(heap: Global, case: &Case) -> anyhow::Result<String> {
 fn answered(heap: Global, answer: Result<Reading, Refusal>) -> Result<String, AllocError> {
     match answer {
         Ok(Reading { root, nodes, atoms }) => format!(in heap; "OK {root} {nodes} {atoms}"),
-        Err(Refusal { question, place }) => {
-            let number = question.number();
-            format!(in heap; "REFUSED {number} {place}")
-        }
+        Err(Refusal { question, place }) => format!(in heap; "REFUSED {question} {place}"),
     }
 }
 
@@ -62,31 +59,10 @@ fn add_entry(line: &mut String, entry: Entry) -> anyhow::Result<()> {
     Ok(())
 }
 
-fn nodes_changed(pool: &[Node]) -> usize {
-    let mut count = 0;
-    for (number, node) in pool.iter().enumerate() {
-        let stale = matches!(
-            *node,
-            Node {
-                kind: NodeKind::Not,
-                left: 1,
-                right: 0,
-                nullable: false
-            }
-        );
-        if !stale {
-            count = number.saturating_add(1);
-        }
+/// The items up to the last that is not as it was.
+fn changed<'a, T: PartialEq>(items: &'a [T], stale: &T) -> &'a [T] {
+    match items.iter().rposition(|item| *item != *stale) {
+        Some(last) => &items[..=last],
+        None => &[],
     }
-    count
-}
-
-fn entries_changed(atoms: &[Entry]) -> usize {
-    let mut count = 0;
-    for (number, entry) in atoms.iter().enumerate() {
-        if entry.place != STALE_ENTRY.place || entry.length != STALE_ENTRY.length {
-            count = number.saturating_add(1);
-        }
-    }
-    count
 }

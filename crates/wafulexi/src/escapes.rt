@@ -1,12 +1,12 @@
 //! Bytes as text that prints.
-ghost use Rattle.std.specs.Prelude.{◌≡◌, ◌<◌, ◌++◌, IfOk, string_bytes, OnOk};
-ghost use Rattle.std.specs.Char.{digit_char};
+ghost use Rattle.std.specs.Prelude.{◌≡◌, ◌++◌, IfOk, string_bytes, OnOk};
 ghost use Rattle.wafulexi.specs.Escapes.{escape, escaped};
 ghost use Rattle.wording.specs.Wording.{prints};
 
 use std::alloc::{AllocError, Global};
 
 /// The bytes as a line of text: one that does not print is written `\xhh`.
+#[tactic(auto, using(crate::proofs::Escaping::escaped_nil, crate::proofs::Escaping::one_more))]
 pub fn escaped(heap: Global, bytes: &[u8]) -> Result<String, AllocError>
     ensures { IfOk result (λ s. string_bytes s ≡ escaped bytes.now) }
 {
@@ -23,9 +23,7 @@ fn push_byte(text: &mut String, byte: u8) -> Result<(), AllocError>
     if prints(byte) {
         text.push(char::from(byte))?;
     } else {
-        text.push_str("\\x")?;
-        text.push(hex_digit(byte / 16))?;
-        text.push(hex_digit(byte % 16))?;
+        write!(text, "\\x{byte:02x}")?;
     }
     Ok(())
 }
@@ -33,12 +31,5 @@ fn push_byte(text: &mut String, byte: u8) -> Result<(), AllocError>
 fn prints(byte: u8) -> bool
     ensures { result ≡ prints byte }
 {
-    32 <= byte && byte <= 126
-}
-
-fn hex_digit(value: u8) -> char
-    requires { value < 16 }
-    ensures { result ≡ digit_char value }
-{
-    char::from_digit(u32::from(value), 16).unwrap()
+    (b' '..=b'~').contains(&byte)
 }

@@ -1,5 +1,5 @@
 //! The place at which a text was refused, shown under its line.
-ghost use Rattle.std.specs.Prelude.{◌≡◌, replicate, IfOk, string_bytes};
+ghost use Rattle.std.specs.Prelude.{◌≡◌, IfOk, string_bytes};
 ghost use Rattle.wafulexi.specs.Excerpts.{first_line, last_line, excerpt};
 
 use crate::escapes::escaped;
@@ -13,38 +13,28 @@ pub fn excerpt(heap: Global, text: &[u8], place: usize) -> Result<String, AllocE
     let (before, after) = text.split_at(place.min(text.len()));
     let before = escaped(heap, last_line(before))?;
     let after = escaped(heap, first_line(after))?;
-    let indent = blanks(heap, before.len())?;
+    let indent = " ".repeat(heap, before.len())?;
     format!(in heap; "{before}{after}\n{indent}^")
 }
 
 /// What stands behind the last line feed.
+#[tactic(auto, using(crate::proofs::Feeds::last_feed, crate::proofs::Feeds::last_whole))]
 fn last_line(bytes: &[u8]) -> &[u8]
     ensures { result.now ≡ last_line bytes.now }
 {
-    let mut start = bytes.len();
-    while start > 0 && bytes[start - 1] != b'\n' {
-        start -= 1;
+    match bytes.iter().rposition(|byte| *byte == b'\n') {
+        Some(feed) => &bytes[feed + 1..],
+        None => bytes,
     }
-    &bytes[start..]
 }
 
 /// What stands before the first line feed.
+#[tactic(auto, using(crate::proofs::Feeds::first_feed, crate::proofs::Feeds::first_whole))]
 fn first_line(bytes: &[u8]) -> &[u8]
     ensures { result.now ≡ first_line bytes.now }
 {
-    let mut end = 0;
-    while end < bytes.len() && bytes[end] != b'\n' {
-        end += 1;
+    match bytes.iter().position(|byte| *byte == b'\n') {
+        Some(feed) => &bytes[..feed],
+        None => bytes,
     }
-    &bytes[..end]
-}
-
-fn blanks(heap: Global, count: usize) -> Result<String, AllocError>
-    ensures { IfOk result (λ s. string_bytes s ≡ replicate count 32) }
-{
-    let mut text = String::new(heap);
-    for _column in 0..count {
-        text.push(' ')?;
-    }
-    Ok(text)
 }

@@ -20,6 +20,12 @@ pub enum Failure {
     Memory,
 }
 
+impl From<Misuse> for Failure {
+    fn from(misuse: Misuse) -> Failure {
+        Failure::Misuse(misuse)
+    }
+}
+
 impl From<Refusal> for Failure {
     fn from(refusal: Refusal) -> Failure {
         Failure::Refused(refusal)
@@ -38,14 +44,8 @@ impl fmt::Display for Failure {
             Failure::Words(error) => write!(f, "cannot read the command line as UTF-8: {error}"),
             Failure::Misuse(misuse) => write!(f, "{misuse}\n{USAGE}"),
             Failure::Unreadable(source, error) => write!(f, "cannot read {source}: {error}"),
-            Failure::Refused(refusal) => {
-                let wording = Wording(*refusal);
-                write!(f, "{wording}")
-            }
-            Failure::Misread(refusal, excerpt) => {
-                let wording = Wording(*refusal);
-                write!(f, "{wording}\n{excerpt}")
-            }
+            Failure::Refused(refusal) => write!(f, "{}", Wording(*refusal)),
+            Failure::Misread(refusal, excerpt) => write!(f, "{}\n{excerpt}", Wording(*refusal)),
             Failure::Unwritten(error) => write!(f, "cannot write standard output: {error}"),
             Failure::Memory => f.write_str("there is not enough memory"),
         }

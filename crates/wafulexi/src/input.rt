@@ -15,10 +15,7 @@ pub fn read(rt: &HostRuntime, source: Source) -> Result<Vec<u8>, Failure> {
         Source::Input => standard_input(rt),
         Source::File(name) => fs::read(rt, name.as_str()),
     };
-    match bytes {
-        Ok(bytes) => Ok(bytes),
-        Err(error) => Err(Failure::Unreadable(source, error)),
-    }
+    bytes.map_err(|error| Failure::Unreadable(source, error))
 }
 
 fn standard_input(rt: &HostRuntime) -> io::Result<Vec<u8>> {

@@ -26,24 +26,15 @@ fn main(rt: HostRuntime) -> ExitCode {
 }
 
 fn run(rt: &HostRuntime) -> Result<(), Failure> {
-    match words::parse_nodes(own_words(rt)?) {
-        Ok(Some(source)) => return commands::node_list::nodes(rt, source),
-        Ok(None) => {}
-        Err(misuse) => return Err(Failure::Misuse(misuse)),
-    }
-    match words::parse(own_words(rt)?) {
-        Ok(command) => commands::run(rt, command),
-        Err(misuse) => Err(Failure::Misuse(misuse)),
+    match words::parse_nodes(own_words(rt)?)? {
+        Some(source) => commands::node_list::nodes(rt, source),
+        None => commands::run(rt, words::parse(own_words(rt)?)?),
     }
 }
 
 /// The words of the command line, without the first, which is the program's own name.
 fn own_words(rt: &HostRuntime) -> Result<Args, Failure> {
-    match env::args(rt) {
-        Ok(mut words) => {
-            let _ = words.next();
-            Ok(words)
-        }
-        Err(error) => Err(Failure::Words(error)),
-    }
+    let mut words = env::args(rt).map_err(Failure::Words)?;
+    let _ = words.next();
+    Ok(words)
 }

@@ -20,6 +20,23 @@ pub enum Source {
     File(String),
 }
 
+/// The source that a word names. A lone dash is standard input, and any other word with a dash in front an option.
+impl TryFrom<String> for Source {
+    type Error = Misuse;
+
+    ghost try_from_gives = { λ word source. source ≡ named word };
+
+    fn try_from(word: String) -> Result<Source, Misuse> {
+        if word.as_str() == "-" {
+            Ok(Source::Input)
+        } else if is_option(word.as_str()) {
+            Err(Misuse::UnknownOption(word))
+        } else {
+            Ok(Source::File(word))
+        }
+    }
+}
+
 /// Why words ask for no command. Each but the first holds the word at fault.
 #[derive(Drop)]
 pub enum Misuse {
@@ -50,15 +67,10 @@ fn help(words: Args) -> Result<Command, Misuse>
     Ok(Command::Help)
 }
 
-fn inspect(mut words: Args) -> Result<Command, Misuse>
+fn inspect(words: Args) -> Result<Command, Misuse>
     ensures { result ≡ inspect (into_iter_items words) }
 {
-    let source = match words.next() {
-        Some(word) => named(word)?,
-        None => Source::Input,
-    };
-    end(words)?;
-    Ok(Command::Inspect(source))
+    Ok(Command::Inspect(source_in(words)?))
 }
 
 /// The source of the rule whose nodes the words ask for; nothing where they ask for something else.
@@ -79,24 +91,11 @@ fn source_in(mut words: Args) -> Result<Source, Misuse>
     ensures { result ≡ sourced (into_iter_items words) }
 {
     let source = match words.next() {
-        Some(word) => named(word)?,
+        Some(word) => Source::try_from(word)?,
         None => Source::Input,
     };
     end(words)?;
     Ok(source)
-}
-
-/// The source that a word names. A lone dash is standard input, and any other word with a dash in front an option.
-fn named(word: String) -> Result<Source, Misuse>
-    ensures { result ≡ named word }
-{
-    if word.as_str() == "-" {
-        Ok(Source::Input)
-    } else if is_option(word.as_str()) {
-        Err(Misuse::UnknownOption(word))
-    } else {
-        Ok(Source::File(word))
-    }
 }
 
 fn end(mut words: Args) -> Result<(), Misuse>

@@ -4,7 +4,6 @@ ghost use Rattle.stepfiles.specs.Layout.{rows_in};
 ghost use Rattle.stepfiles.specs.Views.{viewed};
 ghost use Rattle.wafulexi.specs.Lines.{heading, row_line};
 
-use super::written;
 use crate::escapes::escaped;
 use crate::failures::Failure;
 use crate::input;
@@ -18,7 +17,7 @@ pub fn inspect(rt: &HostRuntime, source: Source) -> Result<(), Failure> {
     let bytes = input::read(rt, source)?;
     let mut file = StepFile::built_in();
     input::open(rt.alloc(), bytes.as_slice(), &mut file)?;
-    written(print(rt, &file, bytes.len()))
+    print(rt, &file, bytes.len()).map_err(Failure::Unwritten)
 }
 
 fn print(rt: &HostRuntime, file: &StepFile<'_>, length: usize) -> io::Result<()> {
@@ -26,8 +25,7 @@ fn print(rt: &HostRuntime, file: &StepFile<'_>, length: usize) -> io::Result<()>
     let mut out = BufWriter::new(heap, rt.stdout())?;
     out.writeln(heading(heap, file, length)?)?;
     out.writeln(escaped(heap, file.text())?)?;
-    let rows = file.row_count();
-    for row in 0..rows {
+    for row in 0..file.row_count() {
         out.writeln(row_line(heap, file, row)?)?;
     }
     out.flush()
@@ -36,7 +34,7 @@ fn print(rt: &HostRuntime, file: &StepFile<'_>, length: usize) -> io::Result<()>
 fn heading(heap: Global, file: &StepFile<'_>, length: usize) -> Result<String, AllocError>
     ensures { IfOk result (λ s. string_bytes s ≡ heading (viewed file.now) length) }
 {
-    let kind = file.kind();
+    let kind = file.kind().number();
     let rows = file.row_count();
     let classes = file.class_count();
     let text = file.text().len();
@@ -44,6 +42,7 @@ fn heading(heap: Global, file: &StepFile<'_>, length: usize) -> Result<String, A
 }
 
 /// The row's number, its mark and its targets.
+#[tactic(auto, using(crate::proofs::Listing::target_is, crate::proofs::Listing::no_targets, crate::proofs::Listing::one_more))]
 fn row_line(heap: Global, file: &StepFile<'_>, row: usize) -> Result<String, AllocError>
     requires { row < rows_in (viewed file.now) }
     ensures { IfOk result (λ s. string_bytes s ≡ row_line (viewed file.now) row) }
@@ -61,9 +60,5 @@ fn row_line(heap: Global, file: &StepFile<'_>, row: usize) -> Result<String, All
 fn add(line: &mut String, number: usize) -> Result<(), AllocError>
     ensures { OnOk result (string_bytes line.new ≡ string_bytes line.old ++ (codes " " ++ decimal number)) }
 {
-    match write!(line, " {number}") {
-        Ok(()) => Ok(()),
-        // writing to a `String` fails only for want of memory
-        Err(_) => Err(AllocError),
-    }
+    write!(line, " {number}")
 }

@@ -2,43 +2,28 @@
 ghost use Rattle.std.specs.Prelude.{◌≡◌, take, drop, IfOk, string_bytes};
 ghost use Rattle.wafulexi.specs.NodeLines.{summed, node_line, kind_word, atom_line};
 
-use super::written;
 use crate::escapes::escaped;
 use crate::excerpts::excerpt;
 use crate::failures::Failure;
 use crate::input;
 use crate::words::Source;
 use nodes::{MOST_NODES, Node, NodeKind};
-use reader::{Entry, Reading, read};
+use reader::{Entry, MOST_ATOMS, Reading, read};
 use refusals::{Question, Refusal};
 use std::alloc::{AllocError, Global};
 use std::io;
 use std::io::{BufWriter, Write};
 
-/// The places that reading wants for atoms.
-const ATOM_PLACES: usize = 32;
-
-/// What the pool and the atom list hold before a reading.
-const UNUSED_NODE: Node = Node {
-    kind: NodeKind::None,
-    left: 0,
-    right: 0,
-    nullable: false,
-};
-
-const UNUSED_ENTRY: Entry = Entry {
-    place: 0,
-    length: 0,
-};
-
 pub fn nodes(rt: &HostRuntime, source: Source) -> Result<(), Failure> {
     let heap = rt.alloc();
     let bytes = input::read(rt, source)?;
     let text = bytes.as_slice();
-    let mut pool = vec![in heap; UNUSED_NODE; MOST_NODES]?;
-    let mut atoms = [UNUSED_ENTRY; ATOM_PLACES];
+    let mut pool = vec![in heap; Node::default(); MOST_NODES]?;
+    let mut atoms = [Entry::default(); MOST_ATOMS];
     match read(text, pool.as_mut_slice(), &mut atoms) {
-        Ok(reading) => written(print(rt, text, reading, pool.as_slice(), &atoms)),
+        Ok(reading) => {
+            print(rt, text, reading, pool.as_slice(), &atoms).map_err(Failure::Unwritten)
+        }
         Err(refusal) => Err(misread(heap, text, refusal)?),
     }
 }
@@ -114,15 +99,7 @@ fn kind_word(kind: NodeKind) -> &'static str
 fn atom_line(heap: Global, text: &[u8], number: usize, atom: Entry) -> Result<String, AllocError>
     ensures { IfOk result (λ s. string_bytes s ≡ atom_line text.now number atom.place atom.length) }
 {
-    let Entry { place, length } = atom;
-    let inside = escaped(heap, part(text, place, length))?;
+    let place = atom.place;
+    let inside = escaped(heap, atom.of(text))?;
     format!(in heap; "atom {number} {place} {inside}")
-}
-
-/// So many bytes from a place on, or as many of them as there are.
-fn part(text: &[u8], place: usize, length: usize) -> &[u8]
-    ensures { result.now ≡ take length (drop place text.now) }
-{
-    let rest = &text[place.min(text.len())..];
-    &rest[..length.min(rest.len())]
 }

@@ -1,33 +1,25 @@
-use Rattle.std.proofs.Common.{◌≡◌, ◌-◌, length, take, refl, arith}
+use Rattle.std.proofs.Common.{◌≡◌, length, take, arith}
+use Rattle.std.proofs.lemmas.List.{length-take}
 use Rattle.nodes.proofs.Pools.{interned_found, interned_full, number_below}
 use Rattle.nodes.proofs.pool.intern.Goals as goal
 
 pub overflow_cast-result : goal.overflow_cast-result
 overflow_cast-result c =
     let p = c.args.pool.now in
-    let size : c.size_of-size.result - 0 ≡ length (take 4096 p.items.now) = omega (arith, c.size_of-size.ensures.size) in
-    omega (
-      arith,
-      number_below p.items.now p.count c.args.node c.number_in-found.new.nodes c.number_in-found.result.1 (c.size_of-size.result - 0) size c.number_in-found.auto.nodes
-          c.in-Some.number (rw (← c.in-Some.is) c.number_in-found.ensures),
-    )
+    let r = c.number_in-found in
+    let size : c.min-size.result ≡ length (take 4096 p.items.now) = simp length-take (omega (arith, c.min-size.ensures)) in
+    omega (arith, number_below p.items.now p.count c.args.node r.new.nodes r.result.1 c.min-size.result size r.auto.nodes r.result.0 r.ensures c.in-Some.number c.in-Some.is)
 
-pub returns-in-Some : goal.returns-in-Some
-returns-in-Some c =
+pub returns-in-Some-clause-whole : goal.returns-in-Some-clause-whole
+returns-in-Some-clause-whole c =
     let p = c.args.pool.now in
-    let size : c.size_of-size.result - 0 ≡ length (take 4096 p.items.now) = omega (arith, c.size_of-size.ensures.size) in
-    record {
-      whole = interned_found p.items.now p.count c.args.node c.number_in-found.new.nodes c.number_in-found.result.1 (c.size_of-size.result - 0) size c.number_in-found.auto.nodes
-          c.in-Some.number (rw (← c.in-Some.is) c.number_in-found.ensures);
-      lent = refl;
-    }
+    let r = c.number_in-found in
+    let size : c.min-size.result ≡ length (take 4096 p.items.now) = simp length-take (omega (arith, c.min-size.ensures)) in
+    interned_found p.items.now p.count c.args.node r.new.nodes r.result.1 c.min-size.result size r.auto.nodes r.result.0 r.ensures c.in-Some.number c.in-Some.is
 
-pub returns-in-None : goal.returns-in-None
-returns-in-None c =
+pub returns-in-None-clause-whole : goal.returns-in-None-clause-whole
+returns-in-None-clause-whole c =
     let p = c.args.pool.now in
-    let size : c.size_of-size.result - 0 ≡ length (take 4096 p.items.now) = omega (arith, c.size_of-size.ensures.size) in
-    record {
-      whole = rw c.at.ensures (interned_full p.items.now p.count c.args.node c.number_in-found.new.nodes c.number_in-found.result.1 (c.size_of-size.result - 0) size
-          c.number_in-found.auto.nodes c.size_of-size.result (omega arith) (rw (← c.in-None.is) c.number_in-found.ensures));
-      lent = refl;
-    }
+    let r = c.number_in-found in
+    let size : c.min-size.result ≡ length (take 4096 p.items.now) = simp length-take (omega (arith, c.min-size.ensures)) in
+    rw c.at.ensures (interned_full p.items.now p.count c.args.node r.new.nodes r.result.1 c.min-size.result size r.auto.nodes r.result.0 r.ensures c.in-None.is)

@@ -1,22 +1,17 @@
-use Rattle.std.proofs.Common.{Some, None, arith}
-use Rattle.nodes.proofs.Pools.{read_zero, read_past, read_as}
+use Rattle.std.proofs.Common.{inl, inr, arith}
+use Rattle.nodes.proofs.Pools.{read_default, read_as}
 use Rattle.nodes.proofs.pool.node_at.Goals as goal
-use Rattle.nodes.proofs.pool.node_at.Goals.{then-place-eq0-via-then-place-eq0, then-place-eq0-via-else-place-eq0+then-place-ge-MOST_NODES}
+use Rattle.nodes.proofs.pool.node_at.Goals.{in_default-via-then-from-lt1, in_default-via-else-from-lt1+else-this-lt4096}
 
-pub returns-then-place-eq0 : goal.returns-then-place-eq0
-returns-then-place-eq0 c =
+pub returns-in-1-to-4095 : goal.returns-in-1-to-4095
+returns-in-1-to-4095 c =
     let p = c.args.pool.now in
-    elim c.then-place-eq0.branch [
-      | then-place-eq0-via-then-place-eq0 w ↦ read_zero p.items.now p.count c.args.node (omega arith)
-      | then-place-eq0-via-else-place-eq0+then-place-ge-MOST_NODES w ↦ read_past p.items.now p.count c.args.node (omega arith)
-    ]
+    read_as p.items.now p.count c.args.node c.unwrap_or_default.result (rw (c.get.ensures, c.from.ensures) at c.unwrap_or_default.ensures) (λ e. omega arith) (omega arith)
 
-pub returns-in-Some : goal.returns-in-Some
-returns-in-Some c =
+pub returns-in_default : goal.returns-in_default
+returns-in_default c =
     let p = c.args.pool.now in
-    read_as p.items.now p.count c.args.node (Some c.in-Some.found) (λ e. omega arith) (omega arith) (rw (← c.from-place.ensures) c.in-Some.ensures)
-
-pub returns-in-None : goal.returns-in-None
-returns-in-None c =
-    let p = c.args.pool.now in
-    read_as p.items.now p.count c.args.node None (λ e. omega arith) (omega arith) (rw (← c.from-place.ensures) c.in-None.ensures)
+    read_default p.items.now p.count c.args.node c.default.result c.default.ensures (elim c.in_default.branch [
+      | in_default-via-then-from-lt1 w ↦ inl (omega arith)
+      | in_default-via-else-from-lt1+else-this-lt4096 w ↦ inr (omega arith)
+    ])

@@ -1,10 +1,9 @@
 use Rattle.std.proofs.Common.{refl}
 use Rattle.std.proofs.lemmas.Result.{err_from_is_err_and}
-use Rattle.nodes.specs.Pools.{pool_of}
 use Rattle.passes.proofs.Passages.{passed_bad}
 use Rattle.passes.proofs.whole.pass_over.Goals as goal
 
 pub returns-in_err-first : goal.returns-in_err-first
-returns-in_err-first c =
+returns-in_err-first g c =
     let p = err_from_is_err_and c.from_residual.result c.from_residual.ensures.1 in
-    rw (p.1, p.2) (record { whole = passed_bad c.args.reader.now (pool_of c.args.pool.now) _ c.in_err-first.ensures.told; lent = refl })
+    rw (p.1, p.2) (record { whole = passed_bad g.S.Sink.step c.args.reader.now (g.S.Sink.pool c.args.sink.now) _ c.in_err-first.ensures.told; lent = refl })

@@ -1,25 +1,13 @@
-use Rattle.std.proofs.Common.{◌≡◌, Some, sym, subst, arith, rules}
-use Rattle.stepfiles.specs.Proper.{MarkThere}
+use Rattle.std.proofs.Common.{◌≡◌, ◌∙◌, arith}
 use Rattle.stepfiles.specs.Views.{mark_in}
-use Rattle.stepfiles.proofs.Checked.{headed}
-use Rattle.stepfiles.proofs.Headers.{laid}
-use Rattle.stepfiles.proofs.Promises.{mark_there}
+use Rattle.stepfiles.proofs.Promises.{mark_there, mark_read}
 use Rattle.stepfiles.proofs.file.StepFile.mark.Goals as goal
-
-pub layout_of-layout-requires : goal.layout_of-layout-requires
-layout_of-layout-requires c = omega (arith, (headed c.args.self.now.bytes.now c.args.self.now.checked).long)
-
-pub row_place-requires : goal.row_place-requires
-row_place-requires c =
-    let b = c.args.self.now.bytes.now in
-    let is = c.layout_of-layout.ensures in
-    record {
-      laid = laid b c.layout_of-layout.result (headed b c.args.self.now.checked) is.value is.few;
-      within = omega arith;
-    }
 
 pub returns : goal.returns
 returns c =
-    let b = c.args.self.now.bytes.now in
-    let value : Some c.decode.result ≡ mark_in b c.args.row = search rules in
-    record { value = value; there = subst (MarkThere b c.args.row) (sym value) (mark_there b c.args.self.now.checked c.args.row) }
+    let f = c.args.self.now in
+    let b = f.table.bytes.now in
+    let row = c.args.row in
+    let read = mark_read b f.checked row (omega (arith, f.table.laid.rows)) c.try_from.result (rw (← c.mark.ensures) c.try_from.ensures) in
+    let value : c.ok.result ≡ mark_in b row = c.ok.ensures.value ∙ read in
+    record { value = value; there = mark_there b f.checked row c.ok.result value }

@@ -1,8 +1,0 @@
-use Rattle.std.proofs.Common.{◌≡◌, ℕ, ◌<◌, get_or}
-use Rattle.languages.specs.Marks.{number, first}
-use Rattle.stepfiles.specs.Layout.{table_in}
-use Rattle.stepfiles.proofs.marks.begin.Given as goal
-
--- the rows so far have their first marks
-abbrev pub invariant-loop-row : goal.invariant-loop-row
-invariant-loop-row l = (k : ℕ) → k < l.row → get_or l.marks k 0 ≡ number (first ((table_in l.bytes).accepts k))
