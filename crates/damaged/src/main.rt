@@ -19,10 +19,6 @@ const EARLIER: &[u8; 32] = b"\x00\x00\x00\x20\x01\x02\x00\x02\x03\x00\x07\
     \x03\x00\x01\x00\x01\x00\x01";
 
 fn main(rt: HostRuntime) -> anyhow::Result<()> {
-    run(&rt)
-}
-
-fn run(rt: &HostRuntime) -> anyhow::Result<()> {
     let heap = rt.alloc();
     let mut scratch = [0u8; 2];
     let mut earlier = StepFile::built_in();
@@ -32,7 +28,7 @@ fn run(rt: &HostRuntime) -> anyhow::Result<()> {
         open(EARLIER, &mut scratch, &mut earlier).is_ok(),
         "the earlier file does not open"
     );
-    open_all(rt, earlier)
+    open_all(&rt, earlier)
 }
 
 /// Opens a case for each line, into a place that views the earlier file.

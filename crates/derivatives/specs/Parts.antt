@@ -13,12 +13,5 @@ abbrev pub second_part : List Node → ℕ → ℕ → Option ℕ
 second_part p l r = then_some (nullable_at p l) r
 
 abbrev pub rejoined : Form → ℕ → ℕ → Form
-rejoined Form.None d e = Form.Or d e
-rejoined Form.Empty d e = Form.Or d e
-rejoined Form.Any d e = Form.Or d e
-rejoined (Form.Atom k) d e = Form.Or d e
-rejoined (Form.Sequence l r) d e = Form.Or d e
-rejoined (Form.Or l r) d e = Form.Or d e
 rejoined (Form.And l r) d e = Form.And d e
-rejoined (Form.Star l) d e = Form.Or d e
-rejoined (Form.Not l) d e = Form.Or d e
+rejoined f d e = Form.Or d e

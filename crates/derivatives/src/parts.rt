@@ -1,4 +1,5 @@
-//! What is made of the parts of a form and of their derivatives.
+//! What is made of the parts of a form and of their derivatives: small functions with an equation each, so that a wrong
+//! one is refused where it stands.
 ghost use Rattle.std.specs.Prelude.{◌≡◌};
 ghost use Rattle.nodes.specs.Entering.{Out, entered};
 ghost use Rattle.nodes.specs.Pools.{pool_of};

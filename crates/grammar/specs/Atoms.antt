@@ -12,33 +12,24 @@
 --   tokens_from text at   the tokens of a text from the place at on, the atoms counted from its beginning
 --   tokens text           the tokens of a text, the atoms counted
 -- Assumes nothing.
-use Rattle.std.specs.Prelude.{ℕ, Bool, false, cond, not, ◌&&◌, ◌||◌, List, [], ◌∷◌, ◌++◌, length, Some, None, Ok, Err, Option, Result, ◌==◌, nat_lt}
-use Rattle.std.specs.List.{prefix_len}
+use Rattle.std.specs.Prelude.{ℕ, Bool, cond, not, ◌&&◌, List, [], ◌∷◌, ◌++◌, length, Some, None, Ok, Err, Option, Result, ◌==◌, nat_lt}
+use Rattle.std.specs.List.{prefix_len, list_any}
 use Rattle.std.specs.Str.{bytes_eq}
 use Rattle.refusals.specs.Questions.{refusing}
 use Rattle.refusals.specs.declared.Question.TheVariants.{AtomCount}
 use Rattle.refusals.specs.declared.Refusal.{Refusal}
-use Rattle.grammar.specs.Tokens.{Token, bar, ampersand, bang, asterisk, opening, closing, nought, one, dot, bracket, Lexed, end, bad, token, sign}
+use Rattle.grammar.specs.Tokens.{Token, bracket, Lexed, end, bad, token, sign}
 use Rattle.grammar.specs.Lexing.{Piece, lexed_from, lexed}
 
 abbrev pub among : List (List ℕ) → List ℕ → Bool
-among [] s = false
-among (a ∷ known) s = bytes_eq a s || among known s
+among known s = list_any (λ a. bytes_eq a s) known
 
 abbrev pub met : List (List ℕ) → List ℕ → List (List ℕ)
 met known s = cond (among known s) known (known ++ (s ∷ []))
 
 abbrev pub met_in : List (List ℕ) → Token → List (List ℕ)
-met_in known bar = known
-met_in known ampersand = known
-met_in known bang = known
-met_in known asterisk = known
-met_in known opening = known
-met_in known closing = known
-met_in known nought = known
-met_in known one = known
-met_in known dot = known
 met_in known (bracket s) = met known s
+met_in known t = known
 
 unfoldable pub atoms_from : List (List ℕ) → Lexed → List (List ℕ)
 atoms_from known (end p) = known

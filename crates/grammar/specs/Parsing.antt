@@ -18,7 +18,7 @@ use Rattle.languages.specs.Rules.{Rule, none, empty, any, atom, sequence, or, an
 use Rattle.refusals.specs.Questions.{refusing}
 use Rattle.refusals.specs.declared.Question.TheVariants.{GrammarAllows, LevelsOpen}
 use Rattle.refusals.specs.declared.Refusal.{Refusal}
-use Rattle.grammar.specs.Tokens.{Token, bar, ampersand, bang, asterisk, opening, closing, nought, one, dot, bracket, Lexed, end, bad, token, rest, place, leads, opens}
+use Rattle.grammar.specs.Tokens.{Token, opening, nought, one, dot, bracket, Lexed, end, bad, token, rest, place, leads, opens}
 use Rattle.grammar.specs.Lexing.{lexed}
 use Rattle.grammar.specs.Atoms.{atoms, number_of, tokens}
 use Rattle.grammar.specs.Grammar.{Level, alternatives, conjunctions, sequences, prefixes, starred, bases}
@@ -86,16 +86,12 @@ abbrev pub closed : Rule → Lexed → Read
 closed r ts = closed_by r ts (leads 41 ts)
 
 abbrev pub base_by : Reads → (List ℕ → ℕ) → ℕ → Token → ℕ → Lexed → Read
-base_by rd names n bar p ts = Err (refusing GrammarAllows p)
-base_by rd names n ampersand p ts = Err (refusing GrammarAllows p)
-base_by rd names n bang p ts = Err (refusing GrammarAllows p)
-base_by rd names n asterisk p ts = Err (refusing GrammarAllows p)
 base_by rd names n opening p ts = entered n (token opening p ts) (λ m us. then (rd m alternatives us) closed)
-base_by rd names n closing p ts = Err (refusing GrammarAllows p)
 base_by rd names n nought p ts = ahead none ts
 base_by rd names n one p ts = ahead empty ts
 base_by rd names n dot p ts = ahead any ts
 base_by rd names n (bracket s) p ts = ahead (atom (names s)) ts
+base_by rd names n t p ts = Err (refusing GrammarAllows p)
 
 abbrev pub bases_by : Reads → (List ℕ → ℕ) → ℕ → Lexed → Read
 bases_by rd names n (end p) = Err (refusing GrammarAllows p)

@@ -10,14 +10,14 @@ use refusals::{Question, Refusal};
 pub fn next<'t>(text: &'t [u8], at: usize) -> Result<Lexeme<'t>, Refusal>
     ensures { sighted result ≡ lexed_at text.now at }
 {
-    let Some(skipped) = skipped(rest_from(text, at)) else {
+    let Some(blanks) = skipped(rest_from(text, at)) else {
         return Ok(Lexeme {
             token: Token::End,
             place: text.len(),
             after: text.len(),
         });
     };
-    let place = at + skipped;
+    let place = at + blanks;
     let token = match text[place] {
         b'|' => Token::Bar,
         b'&' => Token::Ampersand,

@@ -1,6 +1,7 @@
 -- Marks: what each says by what a row reaches, and how they are worked out by passes over the table.
 --   number m         the number of a mark: bit 0 the row accepts, bit 1 it reaches a row that accepts, bit 2 one that doesn't
 --   NamesMark n r    r is the mark whose number is n, or the error that no mark has the number n
+--   unknown_mark e   what that error says
 --   Stands t r m     m is the mark that reachability gives row r
 --   first a          the mark of a row of which only is known whether it accepts
 --   join m n         m, once its row is known to reach what a row with the mark n reaches
@@ -9,7 +10,7 @@
 --   passes t n ms    ms after n passes over all rows
 --   worked t         the marks worked out: as many passes as rows, from the first marks
 -- Assumes nothing.
-use Rattle.std.specs.Prelude.{◌≡◌, ℕ, zero, suc, Bool, true, false, List, map, Result, MatchResult, slice_index_or, slice_set}
+use Rattle.std.specs.Prelude.{◌≡◌, ℕ, zero, suc, Bool, true, false, List, ◌++◌, codes, decimal, map, Result, MatchResult, slice_index_or, slice_set}
 use Rattle.std.specs.List.{range_with_len}
 use Rattle.languages.specs.declared.marks.Mark.{Mark}
 use Rattle.languages.specs.declared.marks.UnknownMark.{UnknownMark}
@@ -24,6 +25,9 @@ number Lost = 4
 
 abbrev pub NamesMark : ℕ → Result Mark UnknownMark → Type 0
 NamesMark n r = MatchResult r (λ m. number m ≡ n) (λ e. (e.0 ≡ n) × ((m : Mark) → ¬ (number m ≡ n)))
+
+abbrev pub unknown_mark : UnknownMark → List ℕ
+unknown_mark e = codes "no mark has the number " ++ decimal e.0
 
 abbrev pub Stands : Table → ℕ → Mark → Type 0
 Stands t r Settled = (s : ℕ) → Reaches t r s → t.accepts s ≡ true

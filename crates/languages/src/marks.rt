@@ -1,6 +1,6 @@
 //! Marks, and the bytes that stand for them.
-ghost use Rattle.std.specs.Prelude.{◌≡◌};
-ghost use Rattle.languages.specs.Marks.{number, NamesMark};
+ghost use Rattle.std.specs.Prelude.{◌≡◌, Some};
+ghost use Rattle.languages.specs.Marks.{number, NamesMark, unknown_mark};
 
 use std::error::Error;
 use std::fmt;
@@ -49,6 +49,8 @@ impl TryFrom<u8> for Mark {
 }
 
 impl fmt::Display for UnknownMark {
+    ghost output = { λ e. Some (unknown_mark e) };
+
     fn fmt<W: fmt::Write>(&self, f: &mut fmt::Formatter<W>) -> fmt::Result {
         write!(f, "no mark has the number {}", self.0)
     }

@@ -1,5 +1,6 @@
 -- Outcomes that come to a rule: at once, one after the other, and by interning a record.
 -- Assumes nothing.
+use Rattle.std.specs.Prelude.{IfOk}
 use Rattle.std.proofs.Common.{◌≡◌, ℕ, ◌<◌, ◌≤◌, List, [], ◌∷◌, ◌++◌, length, get_or, Some, None, Ok, Err, Option, Result, sym, refl, ap, ◌∙◌, append_assoc, append-nil, arith}
 use Rattle.std.proofs.lemmas.List.{length-append, length_push, get_or_at}
 use Rattle.languages.specs.Rules.{Rule, Same}
@@ -13,7 +14,7 @@ use Rattle.nodes.specs.Records.{none_node, same_node}
 use Rattle.nodes.specs.Entering.{Held, Out, bind_by, recorded, appended, interned_by, interned, kept}
 use Rattle.nodes.specs.Soundness.{Below, Sound}
 use Rattle.nodes.specs.Meaning.{meaning, means}
-use Rattle.nodes.specs.Promises.{Parts, Grown, Answered, Comes}
+use Rattle.nodes.specs.Promises.{Parts, Grown, Comes}
 use Rattle.nodes.proofs.Growing.{meaning-append, means-append, meaning_next}
 use Rattle.nodes.specs.Sameness.{same_exact}
 use Rattle.nodes.proofs.Sounding.{raw, raw_recorded, parts_from_below, form_by-recorded, form_at_raw, meaning_form, sound_push}
@@ -38,7 +39,7 @@ grown_means p q g f h = ap (λ z. means z f) g.1 ∙ means-append p g.0 f h
 
 -- An outcome from its three facts.
 comes_from : (h : Held) (r : Rule) (o : Out) → Sound o.1.used → Grown h.used o.1.used →
-    Answered o.0 (λ n. (n < length o.1.used) × Same (meaning o.1.used n) r) → Comes h r o
+    IfOk o.0 (λ n. (n < length o.1.used) × Same (meaning o.1.used n) r) → Comes h r o
 comes_from h r o sound grown answer = record { sound = sound; grown = grown; keeps = grown_meaning h.used o.1.used grown; answer = answer }
 
 -- A node that is there already.
@@ -46,7 +47,7 @@ pub comes_here : (h : Held) (r : Rule) (n : ℕ) → Sound h.used → n < length
 comes_here h r n sound there same = comes_from h r (Ok n, h) sound (grown_itself h.used) (there, same)
 
 same_answer : (g : Held) (r q : Rule) → Same r q → (a : Result ℕ Refusal) →
-    Answered a (λ n. (n < length g.used) × Same (meaning g.used n) r) → Answered a (λ n. (n < length g.used) × Same (meaning g.used n) q)
+    IfOk a (λ n. (n < length g.used) × Same (meaning g.used n) r) → IfOk a (λ n. (n < length g.used) × Same (meaning g.used n) q)
 same_answer g r q same (Ok n) w = (w.0, same_trans (meaning g.used n) r q w.1 same)
 same_answer g r q same (Err e) w = tt
 

@@ -19,7 +19,7 @@ use Rattle.nodes.specs.declared.node.NodeKind.TheVariants as Kind
 use Rattle.nodes.specs.Records.{same_node, none_node}
 use Rattle.nodes.specs.Reading.{at}
 use Rattle.nodes.specs.Entering.{Held, Out, held, appended, interned_by, interned}
-use Rattle.nodes.specs.Sameness.{node_from, same_exact}
+use Rattle.nodes.specs.Sameness.{node_from, same_exact, derived_eq, derived_same}
 
 take_comm : {X : Type 0} (m n : ℕ) (xs : List X) → take m (take n xs) ≡ take n (take m xs)
 take_comm zero zero xs = refl
@@ -124,7 +124,10 @@ module _ (items : List Node) (n : ℕ) (x : Node) (ys : List Node) (m k : ℕ) (
       interned_by-is x (pages (take 4096 items) n) (drop 4096 items) (first_equal same_node (take n (take 4096 items)) x)
       ∙ ap (answered_out (pages (take 4096 items) n) (drop 4096 items)) (ap (λ xs. numbered same_node (pages xs n) x) (sym whole) ∙ sym is)
 
-  module _ (o : Option ℕ) (is : ◌≡◌ {A = book.Out Node} (o, pages ys m) (numbered same_node (pages (take k items) n) x)) where
+  module _ (o : Option ℕ) (by : ◌≡◌ {A = book.Out Node} (o, pages ys m) (numbered derived_eq (pages (take k items) n) x)) where
+    is : ◌≡◌ {A = book.Out Node} (o, pages ys m) (numbered same_node (pages (take k items) n) x)
+    is = by ∙ ap (λ same. numbered same (pages (take k items) n) x) derived_same
+
     pub interned_found : (i : ℕ) → o ≡ Some i → ◌≡◌ {A = Out} (Ok i, held (ys ++ drop k items) m) (interned (held items n) x)
     interned_found i found =
         rw after (sym (before o is ∙ rw found refl))

@@ -36,11 +36,11 @@ held items n = record { used = take n (take 4096 items); past = drop n (take 409
 abbrev pub Out : Type 0
 Out = Result ℕ Refusal × Held
 
-abbrev pub bind_by : Result ℕ Refusal → Held → (ℕ → Held → Out) → Out
+abbrev pub bind_by : {A B : Type 0} → Result A Refusal → Held → (A → Held → Result B Refusal × Held) → Result B Refusal × Held
 bind_by (Ok n) h f = f n h
 bind_by (Err e) h f = (Err e, h)
 
-abbrev pub bind : Out → (ℕ → Held → Out) → Out
+abbrev pub bind : {A B : Type 0} → Result A Refusal × Held → (A → Held → Result B Refusal × Held) → Result B Refusal × Held
 bind o f = bind_by o.0 o.1 f
 
 abbrev pub recorded : List Node → Form → Node
@@ -74,24 +74,9 @@ joined Join.And l r = Form.And l r
 
 -- The parts of a form of the kind that j joins.
 abbrev pub joints : Join → Form → Option (ℕ × ℕ)
-joints Join.Or Form.None = None
-joints Join.Or Form.Empty = None
-joints Join.Or Form.Any = None
-joints Join.Or (Form.Atom k) = None
-joints Join.Or (Form.Sequence l r) = None
 joints Join.Or (Form.Or l r) = Some (l, r)
-joints Join.Or (Form.And l r) = None
-joints Join.Or (Form.Star l) = None
-joints Join.Or (Form.Not l) = None
-joints Join.And Form.None = None
-joints Join.And Form.Empty = None
-joints Join.And Form.Any = None
-joints Join.And (Form.Atom k) = None
-joints Join.And (Form.Sequence l r) = None
-joints Join.And (Form.Or l r) = None
 joints Join.And (Form.And l r) = Some (l, r)
-joints Join.And (Form.Star l) = None
-joints Join.And (Form.Not l) = None
+joints j f = None
 
 abbrev pub members_by : (ℕ → List ℕ) → ℕ → Option (ℕ × ℕ) → List ℕ
 members_by rest n None = n ∷ []
@@ -118,27 +103,13 @@ unfoldable pub merged : Join → ℕ → ℕ → Held → Out
 merged j l r h = chained j (merge (members j h.used (suc l) l) (members j h.used (suc r) r)) h
 
 abbrev pub is_star : Form → Bool
-is_star Form.None = false
-is_star Form.Empty = false
-is_star Form.Any = false
-is_star (Form.Atom k) = false
-is_star (Form.Sequence l r) = false
-is_star (Form.Or l r) = false
-is_star (Form.And l r) = false
 is_star (Form.Star l) = true
-is_star (Form.Not l) = false
+is_star f = false
 
 -- Not of what is read as a form: a not is undone.
 abbrev pub negated : ℕ → Form → Held → Out
-negated n Form.None h = kept (Form.Not n) h
-negated n Form.Empty h = kept (Form.Not n) h
-negated n Form.Any h = kept (Form.Not n) h
-negated n (Form.Atom k) h = kept (Form.Not n) h
-negated n (Form.Sequence l r) h = kept (Form.Not n) h
-negated n (Form.Or l r) h = kept (Form.Not n) h
-negated n (Form.And l r) h = kept (Form.Not n) h
-negated n (Form.Star l) h = kept (Form.Not n) h
 negated n (Form.Not l) h = (Ok l, h)
+negated n f h = kept (Form.Not n) h
 
 abbrev pub entered : Form → Held → Out
 entered Form.None h = (Ok 0, h)

@@ -1,14 +1,12 @@
 -- What entering and deriving mean, for sound pools.
 --   Parts n f       f can be entered over n nodes: its parts are below n, its atom is below 32
 --   Grown p q       q is p and more behind it: what stood in p keeps its number
---   Answered a P    if a is a number, P holds of it
 --   Comes h r o     the outcome o, from the pool h, comes to the rule r: the pool is sound still, every node of before
 --                   keeps its place and meaning, and a node answered is there and has the language of r
 --   EnteringMeans f h o      entering the form f comes to f over the rules of its parts
 --   DerivingMeans s n h o    deriving the node n by the answer set s comes to the derivative of its rule
 -- Assumes nothing.
-use Rattle.std.specs.Prelude.{◌≡◌, ℕ, ◌<◌, List, ◌++◌, length, Ok, Err, Result}
-use Rattle.refusals.specs.declared.Refusal.{Refusal}
+use Rattle.std.specs.Prelude.{◌≡◌, ℕ, ◌<◌, List, ◌++◌, length, IfOk}
 use Rattle.languages.specs.Rules.{Rule, Same, derivative}
 use Rattle.nodes.specs.declared.node.Node.{Node}
 use Rattle.nodes.specs.declared.form.Form.{Form}
@@ -30,15 +28,11 @@ Parts n (Form.Not l) = l < n
 abbrev pub Grown : List Node → List Node → Type 0
 Grown p q = (new : List Node) × (q ≡ p ++ new)
 
-abbrev pub Answered : Result ℕ Refusal → (ℕ → Type 0) → Type 0
-Answered (Ok n) P = P n
-Answered (Err e) P = Unit {0}
-
 pub record Comes (h : Held) (r : Rule) (o : Out) : Type 0 where
   pub sound : Sound o.1.used
   pub grown : Grown h.used o.1.used
   pub keeps : (n : ℕ) → n < length h.used → meaning o.1.used n ≡ meaning h.used n
-  pub answer : Answered o.0 (λ n. (n < length o.1.used) × Same (meaning o.1.used n) r)
+  pub answer : IfOk o.0 (λ n. (n < length o.1.used) × Same (meaning o.1.used n) r)
 
 abbrev pub EnteringMeans : Form → Held → Out → Type 0
 EnteringMeans f h o = Sound h.used → Parts (length h.used) f → Comes h (means h.used f) o

@@ -21,7 +21,7 @@ pub fn enter(pool: &mut Pool, form: Form) -> Result<u16, Refusal>
 }
 
 /// The steps of `enter`; that one says what they come to.
-pub(crate) fn enter_form(pool: &mut Pool, form: Form) -> Result<u16, Refusal>
+fn enter_form(pool: &mut Pool, form: Form) -> Result<u16, Refusal>
     ensures whole { ◌≡◌ {A = Out} (result, pool_of pool.new) (entered form (pool_of pool.old)) }
     ensures lent { pool.new.items.ghost_name ≡ pool.old.items.ghost_name }
 {

@@ -2,7 +2,7 @@
 ghost use Rattle.std.specs.Prelude.{◌≡◌};
 ghost use Rattle.nodes.specs.Reading.{part, form_by};
 
-use crate::node::{Node, NodeKind};
+use crate::node::{NONE, Node, NodeKind};
 
 /// A kind with its parts, each the number of a node.
 #[derive(Clone, Copy)]
@@ -43,5 +43,5 @@ impl Node {
 fn part_of(number: u16, field: u16) -> u16
     ensures { result ≡ part number field }
 {
-    if field < number { field } else { 0 }
+    if field < number { field } else { NONE }
 }

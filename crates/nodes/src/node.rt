@@ -1,7 +1,7 @@
 //! The record that a pool holds for each node.
-ghost use Rattle.std.specs.Prelude.{◌≡◌};
-ghost use Rattle.nodes.specs.Records.{kind_number, KindNumbered};
-ghost use Rattle.nodes.specs.Sameness.{same_exact};
+ghost use Rattle.std.specs.Prelude.{◌≡◌, Some};
+ghost use Rattle.nodes.specs.Records.{kind_number, kind_word, KindNumbered, unknown_kind_text, node_text};
+ghost use Rattle.nodes.specs.Sameness.{derived_exact};
 
 use numbering::Same;
 use std::error::Error;
@@ -37,6 +37,25 @@ impl NodeKind {
     }
 }
 
+/// The kind's word.
+impl fmt::Display for NodeKind {
+    ghost output = { λ kind. Some (kind_word kind) };
+
+    fn fmt<W: fmt::Write>(&self, f: &mut fmt::Formatter<W>) -> fmt::Result {
+        f.write_str(match self {
+            NodeKind::None => "none",
+            NodeKind::Empty => "empty",
+            NodeKind::Any => "any",
+            NodeKind::Atom => "atom",
+            NodeKind::Sequence => "sequence",
+            NodeKind::Or => "or",
+            NodeKind::And => "and",
+            NodeKind::Star => "star",
+            NodeKind::Not => "not",
+        })
+    }
+}
+
 /// A number that no kind has.
 #[derive(Clone, Copy, PartialEq, Eq, Debug)]
 pub struct UnknownKind(pub u8);
@@ -63,6 +82,8 @@ impl TryFrom<u8> for NodeKind {
 }
 
 impl fmt::Display for UnknownKind {
+    ghost output = { λ unknown. Some (unknown_kind_text unknown) };
+
     fn fmt<W: fmt::Write>(&self, f: &mut fmt::Formatter<W>) -> fmt::Result {
         write!(f, "no kind of node has the number {}", self.0)
     }
@@ -80,8 +101,19 @@ pub struct Node {
     pub nullable: bool,
 }
 
+/// The numbers of the kind and of the parts, and 1 for the flag yes or 0 for no.
+impl fmt::Display for Node {
+    ghost output = { λ node. Some (node_text node) };
+
+    fn fmt<W: fmt::Write>(&self, f: &mut fmt::Formatter<W>) -> fmt::Result {
+        let kind = self.kind.number();
+        let flag = u8::from(self.nullable);
+        write!(f, "{kind} {} {} {flag}", self.left, self.right)
+    }
+}
+
 impl Same for Node {
-    ghost exact = { same_exact };
+    ghost exact = { derived_exact };
 
     /// What `==` says, kind and left part first: most nodes differ there, and the derived test looks at more at once.
     fn same(self, other: Node) -> bool {

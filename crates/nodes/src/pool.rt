@@ -3,8 +3,8 @@ ghost use Rattle.std.specs.Prelude.{◌≡◌, ◌≤◌, length, take};
 ghost use Rattle.nodes.specs.Entering.{Out, interned};
 ghost use Rattle.nodes.specs.Pools.{pool_of};
 ghost use Rattle.numbering.specs.Numbering.{Out as Numbered, pages, numbered};
-ghost use Rattle.nodes.specs.Records.{same_node};
 ghost use Rattle.nodes.specs.Reading.{at, form_at, nullable_at};
+ghost use Rattle.nodes.specs.Sameness.{derived_eq};
 
 use crate::form::Form;
 use crate::node::Node;
@@ -57,7 +57,7 @@ pub(crate) fn intern(pool: &mut Pool, node: Node) -> Result<u16, Refusal>
 
 /// Numbers a record among the nodes of a slice, and gives the count afterwards.
 fn number_in(nodes: &mut [Node], count: usize, node: Node) -> (Option<usize>, usize)
-    ensures { ◌≡◌ {A = Numbered Node} (result.0, pages nodes.new result.1) (numbered same_node (pages nodes.old count) node) }
+    ensures { ◌≡◌ {A = Numbered Node} (result.0, pages nodes.new result.1) (numbered derived_eq (pages nodes.old count) node) }
 {
     let mut book = Book {
         items: nodes,

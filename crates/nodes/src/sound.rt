@@ -5,8 +5,8 @@ ghost use Rattle.nodes.specs.Soundness.{flag_at, sound_by, sound_as, proper, ask
 
 use crate::node::{FIRST_NODES, Node, NodeKind};
 
-/// The atoms that a rule can have.
-const MOST_ATOMS: u16 = 32;
+/// The most atoms of a rule: an answer set has a bit for each.
+pub const MOST_ATOMS: u16 = 32;
 
 /// The first node that is not sound; of the nodes 0 to 3 also one that is missing.
 pub fn first_unsound(nodes: &[Node]) -> Option<usize>

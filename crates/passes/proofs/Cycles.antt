@@ -1,31 +1,35 @@
 -- What each reader of the cycle comes to, from what those that it calls come to.
 -- Assumes nothing.
-use Rattle.std.proofs.Common.{◌≡◌, ℕ, zero, suc, ◌+◌, ◌<◌, ◌≤◌, Bool, true, false, eqb, length, Ok, Err, Result, sym, refl, ap, ◌∙◌, arith}
+use Rattle.std.proofs.Common.{◌≡◌, ℕ, zero, suc, ◌+◌, ◌<◌, ◌≤◌, Bool, true, false, eqb, Ok, Err, Result, sym, refl, subst, ap, ◌∙◌, arith}
 use Rattle.std.proofs.lemmas.Bool.{eq-eqb, eqb-true, ne_eqb}
 use Rattle.refusals.specs.Questions.{refusing}
-use Rattle.refusals.specs.declared.Question.TheVariants.{GrammarAllows}
+use Rattle.refusals.specs.declared.Question.TheVariants.{GrammarAllows, LevelsOpen}
 use Rattle.refusals.specs.declared.Refusal.{Refusal}
 use Rattle.grammar.specs.declared.token.Lexeme.{Lexeme}
 use Rattle.grammar.specs.declared.token.Token.TheVariants.{Bang, Opening, Closing}
 use Rattle.grammar.specs.Grammar.{Level, alternatives, conjunctions, sequences, prefixes, starred, bases}
 use Rattle.grammar.specs.Parsing.{joins}
 use Rattle.grammar.specs.Sighting.{token_of}
-use Rattle.grammar.specs.Tokens.{Lexed, leads, sign_of}
+use Rattle.grammar.specs.Tokens.{Lexed, end, bad, token, leads, place, rest}
 use Rattle.nodes.specs.declared.form.Form.TheVariants as Form
 use Rattle.nodes.specs.Entering.{Held, Out}
 use Rattle.passes.specs.declared.binary.Binary.{Binary}
 use Rattle.passes.specs.declared.part.Part.{Part}
+use Rattle.passes.specs.declared.walk.Walk.{Walk}
 use Rattle.surveys.specs.declared.reader.Reader.{Reader}
-use Rattle.passes.specs.Going.{Behind, Goes, Grown, rank, size, size_on}
+use Rattle.passes.specs.Going.{Behind, Goes, GoesFrom, Grown, GrownFrom, InsideOf, deeper, deeper_by, rank, size, size_on, told_inside}
 use Rattle.surveys.specs.Looking.{Lies, Stands, after, standing, told}
 use Rattle.passes.specs.Passing.{Step, Answer, answered, basing, go, grow_into, growing, inside, joining, joins_with, level_of, names_of, negating, onset, onset_of, opened, over, read_into, shut, tighter, with}
-use Rattle.passes.proofs.Standings.{inside_none, inside_one, joins-standing, leads-standing, lies_in, over-standing, place-standing, rest-standing, unexpected-standing}
+use Rattle.passes.proofs.Standings.{joins-standing, leads-standing, lies_in, over-standing, place-standing, rest-standing, unexpected-standing}
 use Rattle.passes.proofs.Signs.{is_bang, is_closing, sign_byte}
 use Rattle.passes.proofs.Turning.{going_on, on_by_sign}
 
 -- Reading a form from a lexeme on, at a bound of the depth.
 abbrev pub reading : Step → Reader → ℕ → Level → ℕ → Lexeme → Held → Answer
 reading step s n X k l h = read_into k step (names_of s) n X (standing s l) h
+
+abbrev pub reading_from : Step → Walk → Level → ℕ → Held → Answer
+reading_from step w X k h = reading step w.reader.now w.levels X k w.first h
 
 rank_most : (X : Level) → rank X ≤ 5
 rank_most alternatives = omega arith
@@ -130,114 +134,138 @@ module _ (step : Step) (s : Reader) (n : ℕ) (b : Binary) (y : Part) (g : Held)
   turn_put is start t far x i goes o put j m =
       turn_operand is start t far (Ok x) i goes j m ∙ ap (λ o. with o (λ q u. grow_into j step (names_of s) n (level_of b) q (standing s x.next) u)) (sym put)
 
+-- What is read from a walk at another token, or inside of a walk.
+abbrev pub At : Walk → Walk → Lexeme → Type 0
+At w v l = (stands : Stands w.reader.now.text.now l) × (v ≡ record w { first = l; stands = stands })
+
+module _ {step : Step} {X : Level} {h : Held} {r : Result Part Refusal} {g : Held} (w v : Walk) where
+  pub goes_at : (l : Lexeme) → At w v l → GoesFrom step v X h r g → Goes step w.reader.now w.levels X l h r g
+  goes_at l at goes = subst (λ v. GoesFrom step v X h r g) at.1 goes
+
+  pub grown_at : (x : Part) → At w v x.next → GrownFrom step v X x.node h r g → Grown step w.reader.now w.levels X x h r g
+  grown_at x at grown = subst (λ v. GrownFrom step v X x.node h r g) at.1 grown
+
+  pub goes_inside : InsideOf w (Ok v) → GoesFrom step v X h r g → Goes step w.reader.now v.levels X v.first h r g
+  goes_inside lies goes = subst (λ s. Goes step s.now v.levels X v.first h r g) lies.0 goes
+
 -- A form that opens a level.
-module _ (step : Step) (s : Reader) (n : ℕ) (X Y : Level) (l : Lexeme) (h : Held) (b : ℕ) (is : sign_of (token_of l.token) ≡ suc b) (F : ℕ → Lexed → Held → Answer)
-    (by : (k : ℕ) → reading step s n X (suc k) l h ≡ inside n (standing s l) h (λ m us. go (read_into k step (names_of s) m Y us h) F)) where
-  open_none : (e : Refusal) → Err e ≡ opened n l.place → (k : ℕ) → reading step s n X (suc k) l h ≡ (Err e, h)
-  open_none e none k = by k ∙ inside_none n (standing s l) h _ e (none ∙ ap (opened n) (sym (place-standing s l)))
+over-deeper_by : (n : ℕ) (us : Lexed) (h : Held) (f : ℕ → Lexed → Answer) → over us h (f n) ≡ go (deeper_by (Ok n) us, h) (λ m us _. f m us)
+over-deeper_by n (end p) h f = refl
+over-deeper_by n (bad r) h f = refl
+over-deeper_by n (token t p us) h f = refl
 
-  open_by : (m : ℕ) → Ok m ≡ opened n l.place → (r : Result Lexeme Refusal) → told s r ≡ after s l.after → (k : ℕ) → reading step s n X (suc k) l h ≡ over (told s r) h (λ us. go (read_into k step (names_of s) m Y us h) F)
-  open_by m some r t k = by k ∙ inside_one n (standing s l) h _ m l.place some ∙ ap (λ ts. over ts h (λ us. go (read_into k step (names_of s) m Y us h) F)) (rest-standing s l b is ∙ sym t)
+inside-deeper_by : (n p : ℕ) (ts us : Lexed) (h : Held) (f : ℕ → Lexed → Answer) → place ts ≡ p → rest ts ≡ us → inside n ts h f ≡ go (deeper_by (opened n p) us, h) (λ m us _. f m us)
+inside-deeper_by zero p ts us h f at on = ap (λ p. (Err (refusing LevelsOpen p), h)) at
+inside-deeper_by (suc n) p ts us h f at on = ap (λ us. over us h (f n)) on ∙ over-deeper_by n us h f
 
-  open_refused : (m : ℕ) → Ok m ≡ opened n l.place → (e : Refusal) → told s (Err e) ≡ after s l.after → (k : ℕ) → reading step s n X (suc k) l h ≡ (Err e, h)
-  open_refused m some e t k = open_by m some (Err e) t k
+module _ (step : Step) (w : Walk) (X Y : Level) (h : Held) (b : ℕ) (is : sign_byte w.first.token ≡ suc b) (F : ℕ → Lexed → Held → Answer)
+    (by : (k : ℕ) → reading_from step w X (suc k) h ≡ inside w.levels (standing w.reader.now w.first) h (λ m us. go (read_into k step (names_of w.reader.now) m Y us h) F)) where
+  abbrev opened_on : ℕ → ℕ → Lexed → Answer
+  opened_on k m us = go (read_into k step (names_of w.reader.now) m Y us h) F
 
-  open_part : (m : ℕ) → Ok m ≡ opened n l.place → (start : Lexeme) → told s (Ok start) ≡ after s l.after → l.place < start.place → start.place ≤ length s.text.now → (r : Result Part Refusal) (g : Held) → Goes step s m Y start h r g → (k : ℕ) → size s l X < suc k → reading step s n X (suc k) l h ≡ go (answered s r, g) F
-  open_part m some start t far in-it r g goes k enough =
-      let most = rank_most Y in
-      open_by m some (Ok start) t k ∙ over-standing s start h (λ us. go (read_into k step (names_of s) m Y us h) F) ∙ ap (λ a. go a F) (sym (goes.answer k (omega arith)))
+  open_by : (r : Result Walk Refusal) → told_inside w.reader.now r ≡ deeper w → (k : ℕ) → reading_from step w X (suc k) h ≡ go (told_inside w.reader.now r, h) (λ m us _. opened_on k m us)
+  open_by r t k =
+      by k
+      ∙ inside-deeper_by w.levels w.first.place (standing w.reader.now w.first) (after w.reader.now w.first.after) h (opened_on k) (place-standing w.reader.now w.first) (rest-standing w.reader.now w.first b is)
+      ∙ ap (λ r. go (r, h) (λ m us _. opened_on k m us)) (sym t)
+
+  open_refused : (e : Refusal) → Err e ≡ deeper w → GoesFrom step w X h (Err e) h
+  open_refused e t = goes_by step w.reader.now w.levels X w.first h (Err e) h (λ k m. open_by (Err e) t k) tt
+
+  module _ (v : Walk) (t : told_inside w.reader.now (Ok v) ≡ deeper w) (lies : InsideOf w (Ok v)) (r : Result Part Refusal) (g : Held) (goes : GoesFrom step v Y h r g) where
+    open_part : (k : ℕ) → size w.reader.now w.first X < suc k → reading_from step w X (suc k) h ≡ go (answered w.reader.now r, g) F
+    open_part k enough =
+        let on = on_by_sign w.reader.now w.first v.first b is w.stands lies.1 in
+        let far = on.0 in
+        let in-it = on.1 in
+        let most = rank_most Y in
+        let here = goes_inside w v lies goes in
+        open_by (Ok v) t k ∙ ap (λ a. go a F) (sym (here.answer k (omega arith)))
+
+    open_onward : Behind w.reader.now (w.first.place + 1) r
+    open_onward =
+        let on = on_by_sign w.reader.now w.first v.first b is w.stands lies.1 in
+        let far = on.0 in
+        let here = goes_inside w v lies goes in
+        behind_weaker w.reader.now (w.first.place + 1) (v.first.place + 1) r (omega arith) here.onward
 
 -- Signs `!`.
-module _ (step : Step) (s : Reader) (n : ℕ) (l : Lexeme) (h : Held) where
-  negating_by : (k : ℕ) (t : Bool) → eqb (sign_byte l.token) 33 ≡ t → reading step s n prefixes (suc k) l h ≡ negating (read_into k step (names_of s)) step n (standing s l) h t
+module _ (step : Step) (w : Walk) (h : Held) where
+  negating_by : (k : ℕ) (t : Bool) → eqb (sign_byte w.first.token) 33 ≡ t → reading_from step w prefixes (suc k) h ≡ negating (read_into k step (names_of w.reader.now)) step w.levels (standing w.reader.now w.first) h t
   unfolding read_into grow_into
-  negating_by k t e = ap (negating (read_into k step (names_of s)) step n (standing s l) h) (leads-standing s l 33 ∙ e)
+  negating_by k t e = ap (negating (read_into k step (names_of w.reader.now)) step w.levels (standing w.reader.now w.first) h) (leads-standing w.reader.now w.first 33 ∙ e)
 
-  pub prefix_plain : (l.token ≡ Bang → ⊥) → (r : Result Part Refusal) (g : Held) → Goes step s n starred l h r g → Goes step s n prefixes l h r g
+  pub prefix_plain : (w.first.token ≡ Bang → ⊥) → (r : Result Part Refusal) (g : Held) → GoesFrom step w starred h r g → GoesFrom step w prefixes h r g
   prefix_plain never r g goes =
-      goes_by step s n prefixes l h r g (λ k m. negating_by k false (ne_eqb _ 33 (λ e. never (is_bang l.token e))) ∙ sym (goes.answer k (omega arith))) goes.onward
+      goes_by step w.reader.now w.levels prefixes w.first h r g (λ k m. negating_by k false (ne_eqb _ 33 (λ e. never (is_bang w.first.token e))) ∙ sym (goes.answer k (omega arith))) goes.onward
 
   abbrev negated : ℕ → Lexed → Held → Answer
   negated m vs g = with (step (Form.Not m) g) (λ q i. (Ok (q, vs), i))
 
-  module _ (bang : l.token ≡ Bang) where
-    bang_by : (k : ℕ) → reading step s n prefixes (suc k) l h ≡ inside n (standing s l) h (λ m us. go (read_into k step (names_of s) m prefixes us h) negated)
+  module _ (bang : w.first.token ≡ Bang) where
+    bang_by : (k : ℕ) → reading_from step w prefixes (suc k) h ≡ inside w.levels (standing w.reader.now w.first) h (λ m us. go (read_into k step (names_of w.reader.now) m prefixes us h) negated)
     bang_by k = negating_by k true (eq-eqb _ 33 (ap sign_byte bang))
 
-    pub prefix_none : (e : Refusal) → Err e ≡ opened n l.place → Goes step s n prefixes l h (Err e) h
-    prefix_none e none = goes_by step s n prefixes l h (Err e) h (λ k m. open_none step s n prefixes prefixes l h 32 (ap sign_byte bang) negated bang_by e none k) tt
+    pub prefix_refused : (e : Refusal) → Err e ≡ deeper w → GoesFrom step w prefixes h (Err e) h
+    prefix_refused = open_refused step w prefixes prefixes h 32 (ap sign_byte bang) negated bang_by
 
-    module _ (m : ℕ) (some : Ok m ≡ opened n l.place) where
-      pub prefix_refused : (e : Refusal) → told s (Err e) ≡ after s l.after → Goes step s n prefixes l h (Err e) h
-      prefix_refused e t = goes_by step s n prefixes l h (Err e) h (λ k enough. open_refused step s n prefixes prefixes l h 32 (ap sign_byte bang) negated bang_by m some e t k) tt
+    module _ (v : Walk) (t : told_inside w.reader.now (Ok v) ≡ deeper w) (lies : InsideOf w (Ok v)) where
+      prefix_by : (r : Result Part Refusal) (g : Held) → GoesFrom step v prefixes h r g → (k : ℕ) → size w.reader.now w.first prefixes < suc k → reading_from step w prefixes (suc k) h ≡ go (answered w.reader.now r, g) negated
+      prefix_by = open_part step w prefixes prefixes h 32 (ap sign_byte bang) negated bang_by v t lies
 
-      module _ (stands : Stands s.text.now l) (start : Lexeme) (t : told s (Ok start) ≡ after s l.after) (lies : Lies s.text.now l.after start) where
-        prefix_by : (r : Result Part Refusal) (g : Held) → Goes step s m prefixes start h r g → (k : ℕ) → size s l prefixes < suc k → reading step s n prefixes (suc k) l h ≡ go (answered s r, g) negated
-        prefix_by =
-            let on = on_by_sign s l start 32 (ap sign_byte bang) stands lies in
-            open_part step s n prefixes prefixes l h 32 (ap sign_byte bang) negated bang_by m some start t on.0 on.1
+      pub prefix_stopped : (e : Refusal) (g : Held) → GoesFrom step v prefixes h (Err e) g → GoesFrom step w prefixes h (Err e) g
+      prefix_stopped e g goes = goes_by step w.reader.now w.levels prefixes w.first h (Err e) g (prefix_by (Err e) g goes) tt
 
-        pub prefix_stopped : (e : Refusal) (g : Held) → Goes step s m prefixes start h (Err e) g → Goes step s n prefixes l h (Err e) g
-        prefix_stopped e g goes = goes_by step s n prefixes l h (Err e) g (prefix_by (Err e) g goes) tt
+      module _ (x : Part) (g : Held) (goes : GoesFrom step v prefixes h (Ok x) g) where
+        pub prefix_full : (e : Refusal) (i : Held) → ◌≡◌ {A = Out} (Err e, i) (step (Form.Not x.node) g) → GoesFrom step w prefixes h (Err e) i
+        prefix_full e i put = goes_by step w.reader.now w.levels prefixes w.first h (Err e) i (λ k m. prefix_by (Ok x) g goes k m ∙ ap (λ o. with o (λ q j. (Ok (q, standing w.reader.now x.next), j))) (sym put)) tt
 
-        module _ (x : Part) (g : Held) (goes : Goes step s m prefixes start h (Ok x) g) where
-          pub prefix_full : (e : Refusal) (i : Held) → ◌≡◌ {A = Out} (Err e, i) (step (Form.Not x.node) g) → Goes step s n prefixes l h (Err e) i
-          prefix_full e i put = goes_by step s n prefixes l h (Err e) i (λ k m. prefix_by (Ok x) g goes k m ∙ ap (λ o. with o (λ q j. (Ok (q, standing s x.next), j))) (sym put)) tt
-
-          pub prefix_done : (q : ℕ) (i : Held) → ◌≡◌ {A = Out} (Ok q, i) (step (Form.Not x.node) g) → Goes step s n prefixes l h (Ok (record { node = q; next = x.next })) i
-          prefix_done q i put =
-              let on = on_by_sign s l start 32 (ap sign_byte bang) stands lies in
-              let far = on.0 in
-              let behind = goes.onward.1 in
-              goes_by step s n prefixes l h (Ok (record { node = q; next = x.next })) i (λ k m. prefix_by (Ok x) g goes k m ∙ ap (λ o. with o (λ q j. (Ok (q, standing s x.next), j))) (sym put)) (goes.onward.0, omega arith)
+        pub prefix_done : (q : ℕ) (i : Held) → ◌≡◌ {A = Out} (Ok q, i) (step (Form.Not x.node) g) → GoesFrom step w prefixes h (Ok (record { node = q; next = x.next })) i
+        prefix_done q i put =
+            goes_by step w.reader.now w.levels prefixes w.first h (Ok (record { node = q; next = x.next })) i
+            (λ k m. prefix_by (Ok x) g goes k m ∙ ap (λ o. with o (λ q j. (Ok (q, standing w.reader.now x.next), j))) (sym put))
+            (open_onward step w prefixes prefixes h 32 (ap sign_byte bang) negated bang_by v t lies (Ok x) g goes)
 
 -- Parentheses.
-module _ (step : Step) (s : Reader) (n : ℕ) (l : Lexeme) (h : Held) (opening : l.token ≡ Opening) where
+module _ (step : Step) (w : Walk) (h : Held) (opening : w.first.token ≡ Opening) where
   abbrev shutting : ℕ → Lexed → Held → Answer
   shutting m vs g = shut m vs g (leads 41 vs)
 
-  basing_by : (k : ℕ) → reading step s n bases (suc k) l h ≡ inside n (standing s l) h (λ m us. go (read_into k step (names_of s) m alternatives us h) shutting)
+  basing_by : (k : ℕ) → reading_from step w bases (suc k) h ≡ inside w.levels (standing w.reader.now w.first) h (λ m us. go (read_into k step (names_of w.reader.now) m alternatives us h) shutting)
   unfolding read_into grow_into
-  basing_by k = ap (basing (read_into k step (names_of s)) step (names_of s) n (standing s l) h) (leads-standing s l 40 ∙ eq-eqb _ 40 (ap sign_byte opening))
+  basing_by k = ap (basing (read_into k step (names_of w.reader.now)) step (names_of w.reader.now) w.levels (standing w.reader.now w.first) h) (leads-standing w.reader.now w.first 40 ∙ eq-eqb _ 40 (ap sign_byte opening))
 
-  pub enclosed_none : (e : Refusal) → Err e ≡ opened n l.place → Goes step s n bases l h (Err e) h
-  enclosed_none e none = goes_by step s n bases l h (Err e) h (λ k m. open_none step s n bases alternatives l h 39 (ap sign_byte opening) shutting basing_by e none k) tt
+  pub enclosed_refused : (e : Refusal) → Err e ≡ deeper w → GoesFrom step w bases h (Err e) h
+  enclosed_refused = open_refused step w bases alternatives h 39 (ap sign_byte opening) shutting basing_by
 
-  module _ (m : ℕ) (some : Ok m ≡ opened n l.place) where
-    pub enclosed_refused : (e : Refusal) → told s (Err e) ≡ after s l.after → Goes step s n bases l h (Err e) h
-    enclosed_refused e t = goes_by step s n bases l h (Err e) h (λ k enough. open_refused step s n bases alternatives l h 39 (ap sign_byte opening) shutting basing_by m some e t k) tt
+  module _ (v : Walk) (t : told_inside w.reader.now (Ok v) ≡ deeper w) (lies : InsideOf w (Ok v)) where
+    enclosed_by : (r : Result Part Refusal) (g : Held) → GoesFrom step v alternatives h r g → (k : ℕ) → size w.reader.now w.first bases < suc k → reading_from step w bases (suc k) h ≡ go (answered w.reader.now r, g) shutting
+    enclosed_by = open_part step w bases alternatives h 39 (ap sign_byte opening) shutting basing_by v t lies
 
-    module _ (stands : Stands s.text.now l) (start : Lexeme) (t : told s (Ok start) ≡ after s l.after) (lies : Lies s.text.now l.after start) where
-      enclosed_by : (r : Result Part Refusal) (g : Held) → Goes step s m alternatives start h r g → (k : ℕ) → size s l bases < suc k → reading step s n bases (suc k) l h ≡ go (answered s r, g) shutting
-      enclosed_by =
-          let on = on_by_sign s l start 39 (ap sign_byte opening) stands lies in
-          open_part step s n bases alternatives l h 39 (ap sign_byte opening) shutting basing_by m some start t on.0 on.1
+    pub enclosed_stopped : (e : Refusal) (g : Held) → GoesFrom step v alternatives h (Err e) g → GoesFrom step w bases h (Err e) g
+    enclosed_stopped e g goes = goes_by step w.reader.now w.levels bases w.first h (Err e) g (enclosed_by (Err e) g goes) tt
 
-      pub enclosed_stopped : (e : Refusal) (g : Held) → Goes step s m alternatives start h (Err e) g → Goes step s n bases l h (Err e) g
-      enclosed_stopped e g goes = goes_by step s n bases l h (Err e) g (enclosed_by (Err e) g goes) tt
+    module _ (x : Part) (g : Held) (goes : GoesFrom step v alternatives h (Ok x) g) where
+      shut_by : (k : ℕ) → size w.reader.now w.first bases < suc k → (b : Bool) → eqb (sign_byte x.next.token) 41 ≡ b → reading_from step w bases (suc k) h ≡ shut x.node (standing w.reader.now x.next) g b
+      shut_by k m b e = enclosed_by (Ok x) g goes k m ∙ ap (shut x.node (standing w.reader.now x.next) g) (leads-standing w.reader.now x.next 41 ∙ e)
 
-      module _ (x : Part) (g : Held) (goes : Goes step s m alternatives start h (Ok x) g) where
-        shut_by : (k : ℕ) → size s l bases < suc k → (b : Bool) → eqb (sign_byte x.next.token) 41 ≡ b → reading step s n bases (suc k) l h ≡ shut x.node (standing s x.next) g b
-        shut_by k m b e = enclosed_by (Ok x) g goes k m ∙ ap (shut x.node (standing s x.next) g) (leads-standing s x.next 41 ∙ e)
+      pub enclosed_open : (x.next.token ≡ Closing → ⊥) → GoesFrom step w bases h (Err (refusing GrammarAllows x.next.place)) g
+      enclosed_open never =
+          goes_by step w.reader.now w.levels bases w.first h _ g (λ k m. shut_by k m false (ne_eqb _ 41 (λ e. never (is_closing x.next.token e))) ∙ ap (λ r. (Err r, g)) (unexpected-standing w.reader.now x.next)) tt
 
-        pub enclosed_open : (x.next.token ≡ Closing → ⊥) → Goes step s n bases l h (Err (refusing GrammarAllows x.next.place)) g
-        enclosed_open never =
-            goes_by step s n bases l h _ g (λ k m. shut_by k m false (ne_eqb _ 41 (λ e. never (is_closing x.next.token e))) ∙ ap (λ r. (Err r, g)) (unexpected-standing s x.next)) tt
+      module _ (closing : x.next.token ≡ Closing) where
+        closed_by_lem : (r : Result Lexeme Refusal) → told w.reader.now r ≡ after w.reader.now x.next.after → (k : ℕ) → size w.reader.now w.first bases < suc k → reading_from step w bases (suc k) h ≡ over (told w.reader.now r) g (λ us. (Ok (x.node, us), g))
+        closed_by_lem r u k m =
+            shut_by k m true (eq-eqb _ 41 (ap sign_byte closing)) ∙ ap (λ ts. over ts g (λ us. (Ok (x.node, us), g))) (rest-standing w.reader.now x.next 40 (ap sign_byte closing) ∙ sym u)
 
-        module _ (closing : x.next.token ≡ Closing) where
-          closed_by_lem : (r : Result Lexeme Refusal) → told s r ≡ after s x.next.after → (k : ℕ) → size s l bases < suc k → reading step s n bases (suc k) l h ≡ over (told s r) g (λ us. (Ok (x.node, us), g))
-          closed_by_lem r u k m =
-              shut_by k m true (eq-eqb _ 41 (ap sign_byte closing)) ∙ ap (λ ts. over ts g (λ us. (Ok (x.node, us), g))) (rest-standing s x.next 40 (ap sign_byte closing) ∙ sym u)
+        pub enclosed_bad : (e : Refusal) → told w.reader.now (Err e) ≡ after w.reader.now x.next.after → GoesFrom step w bases h (Err e) g
+        enclosed_bad e u = goes_by step w.reader.now w.levels bases w.first h (Err e) g (closed_by_lem (Err e) u) tt
 
-          pub enclosed_bad : (e : Refusal) → told s (Err e) ≡ after s x.next.after → Goes step s n bases l h (Err e) g
-          enclosed_bad e u = goes_by step s n bases l h (Err e) g (closed_by_lem (Err e) u) tt
-
-          pub enclosed_done : (next : Lexeme) → told s (Ok next) ≡ after s x.next.after → Lies s.text.now x.next.after next → Goes step s n bases l h (Ok (record { node = x.node; next = next })) g
-          enclosed_done next u further =
-              let on = on_by_sign s l start 39 (ap sign_byte opening) stands lies in
-              let far = on.0 in
-              let behind = goes.onward.1 in
-              let inner = lies_in s.text.now x.next goes.onward.0 in
-              let a = inner.0 in
-              let b = further.1 inner.1 in
-              goes_by step s n bases l h (Ok (record { node = x.node; next = next })) g (λ k m. closed_by_lem (Ok next) u k m ∙ over-standing s next g (λ us. (Ok (x.node, us), g))) (further.0, omega arith)
+        pub enclosed_done : (next : Lexeme) → told w.reader.now (Ok next) ≡ after w.reader.now x.next.after → Lies w.reader.now.text.now x.next.after next → GoesFrom step w bases h (Ok (record { node = x.node; next = next })) g
+        enclosed_done next u further =
+            let behind = open_onward step w bases alternatives h 39 (ap sign_byte opening) shutting basing_by v t lies (Ok x) g goes in
+            let far = behind.1 in
+            let inner = lies_in w.reader.now.text.now x.next behind.0 in
+            let a = inner.0 in
+            let b = further.1 inner.1 in
+            goes_by step w.reader.now w.levels bases w.first h (Ok (record { node = x.node; next = next })) g (λ k m. closed_by_lem (Ok next) u k m ∙ over-standing w.reader.now next g (λ us. (Ok (x.node, us), g))) (further.0, omega arith)

@@ -5,3 +5,4 @@ pub mod Turning
 pub mod Depths
 pub mod Cycles
 pub mod Passages
+pub mod Exits

@@ -1,9 +1,8 @@
 -- The tokens that begin with a lexeme.
 -- Assumes nothing.
-use Rattle.std.proofs.Common.{◌≡◌, ℕ, zero, suc, ◌<◌, ◌≤◌, eqb, List, length, Some, None, Ok, Err, Option, refl, ap, arith}
+use Rattle.std.proofs.Common.{◌≡◌, ℕ, suc, ◌<◌, ◌≤◌, eqb, List, length, Some, None, Option, refl, ap, arith}
 use Rattle.refusals.specs.Questions.{refusing}
-use Rattle.refusals.specs.declared.Question.TheVariants.{GrammarAllows, LevelsOpen}
-use Rattle.refusals.specs.declared.Refusal.{Refusal}
+use Rattle.refusals.specs.declared.Question.TheVariants.{GrammarAllows}
 use Rattle.grammar.specs.declared.token.Lexeme.{Lexeme}
 use Rattle.grammar.specs.Lexing.{onward_by}
 use Rattle.grammar.specs.Parsing.{joins, unexpected}
@@ -13,7 +12,7 @@ use Rattle.nodes.specs.Entering.{Held}
 use Rattle.passes.specs.declared.binary.Binary.{Binary}
 use Rattle.surveys.specs.declared.reader.Reader.{Reader}
 use Rattle.surveys.specs.Looking.{Stands, StandsBy, after, standing}
-use Rattle.passes.specs.Passing.{Answer, inside, joins_with, level_of, opened, over}
+use Rattle.passes.specs.Passing.{Answer, joins_with, level_of, over}
 
 head_on : (f : ℕ → Lexed) (o : Option Token) (p q : ℕ) → head (onward_by f o p q) ≡ o
 head_on f None p q = refl
@@ -74,12 +73,3 @@ module _ (s : Reader) (l : Lexeme) where
   joins-standing Binary.Or = ap (λ o. eqb (sign_of o) 124) head-standing
   joins-standing Binary.And = ap (λ o. eqb (sign_of o) 38) head-standing
   joins-standing Binary.Sequence = ap begins_some head-standing
-
--- Opening a level.
-pub inside_none : (n : ℕ) (ts : Lexed) (h : Held) (f : ℕ → Lexed → Answer) (e : Refusal) → Err e ≡ opened n (place ts) → inside n ts h f ≡ (Err e, h)
-inside_none zero ts h f e is = let same : refusing LevelsOpen (place ts) ≡ e = cc in ap (λ r. (Err r, h)) same
-inside_none (suc n) ts h f e is = cc
-
-pub inside_one : (n : ℕ) (ts : Lexed) (h : Held) (f : ℕ → Lexed → Answer) (m p : ℕ) → Ok m ≡ opened n p → inside n ts h f ≡ over (rest ts) h (f m)
-inside_one zero ts h f m p is = cc
-inside_one (suc n) ts h f m p is = let same : n ≡ m = cc in ap (λ m. over (rest ts) h (f m)) same

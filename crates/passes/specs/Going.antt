@@ -7,8 +7,12 @@
 --   Grown step s n X x h r g   the same for going on from the part x
 --   GoesFrom step w X h r g    the same as Goes from where the walk w stands
 --   GrownFrom step w X l h r g     the same as Grown from the node l, where the walk w stands behind it
+--   deeper_by r ts      how many levels are left, by r, and the tokens ts behind the one that opens a level; or a refusal
+--   deeper w            the same where the token of the walk w opens a level
+--   told_inside s r     what opening a level answers, in these words
+--   InsideOf w r        a walk inside of w reads the same text, further on
 -- Assumes nothing.
-use Rattle.std.specs.Prelude.{◌≡◌, ℕ, ◌+◌, ◌-◌, ◌*◌, ◌<◌, ◌≤◌, length, Ok, Err, Result}
+use Rattle.std.specs.Prelude.{◌≡◌, ℕ, ◌+◌, ◌-◌, ◌*◌, ◌<◌, ◌≤◌, length, Ok, Err, Result, IfOk}
 use Rattle.refusals.specs.declared.Refusal.{Refusal}
 use Rattle.grammar.specs.declared.token.Lexeme.{Lexeme}
 use Rattle.grammar.specs.Grammar.{Level, alternatives, conjunctions, sequences, prefixes, starred, bases}
@@ -16,8 +20,9 @@ use Rattle.nodes.specs.Entering.{Held}
 use Rattle.passes.specs.declared.part.Part.{Part}
 use Rattle.passes.specs.declared.walk.Walk.{Walk}
 use Rattle.surveys.specs.declared.reader.Reader.{Reader}
-use Rattle.surveys.specs.Looking.{Stands, standing}
-use Rattle.passes.specs.Passing.{Answer, Step, answered, grow_into, names_of, read_into}
+use Rattle.grammar.specs.Tokens.{Lexed, end, bad, token}
+use Rattle.surveys.specs.Looking.{Lies, Stands, after, standing}
+use Rattle.passes.specs.Passing.{Answer, Step, answered, grow_into, names_of, opened, read_into}
 
 abbrev pub rank : Level → ℕ
 rank alternatives = 5
@@ -34,8 +39,7 @@ abbrev pub size_on : Reader → Lexeme → ℕ
 size_on s l = 8 * (length s.text.now - l.place) + 7
 
 abbrev pub Behind : Reader → ℕ → Result Part Refusal → Type 0
-Behind s p (Ok x) = Stands s.text.now x.next × (p ≤ x.next.place)
-Behind s p (Err r) = Unit {0}
+Behind s p r = IfOk r (λ x. Stands s.text.now x.next × (p ≤ x.next.place))
 
 pub record Goes (step : Step) (s : Reader) (n : ℕ) (X : Level) (l : Lexeme) (h : Held) (r : Result Part Refusal) (g : Held) : Type 0 where
   -- for every bound of the depth that is large enough
@@ -51,3 +55,21 @@ GoesFrom step w X h r g = Goes step w.reader.now w.levels X w.first h r g
 
 abbrev pub GrownFrom : Step → Walk → Level → ℕ → Held → Result Part Refusal → Held → Type 0
 GrownFrom step w X l h r g = Grown step w.reader.now w.levels X (record { node = l; next = w.first }) h r g
+
+-- Opening a level.
+abbrev pub deeper_by : Result ℕ Refusal → Lexed → Result (ℕ × Lexed) Refusal
+deeper_by (Err r) ts = Err r
+deeper_by (Ok n) (bad r) = Err r
+deeper_by (Ok n) (end p) = Ok (n, end p)
+deeper_by (Ok n) (token t p ts) = Ok (n, token t p ts)
+
+abbrev pub deeper : Walk → Result (ℕ × Lexed) Refusal
+deeper w = deeper_by (opened w.levels w.first.place) (after w.reader.now w.first.after)
+
+abbrev pub told_inside : Reader → Result Walk Refusal → Result (ℕ × Lexed) Refusal
+told_inside s (Ok v) = Ok (v.levels, standing s v.first)
+told_inside s (Err r) = Err r
+
+abbrev pub InsideOf : Walk → Result Walk Refusal → Type 0
+InsideOf w (Ok v) = (v.reader ≡ w.reader) × Lies w.reader.now.text.now w.first.after v.first
+InsideOf w (Err r) = Unit {0}

@@ -19,7 +19,7 @@
 --   passed_into step s h                a pass over the whole text
 --   settled r        whether it came to its end
 -- Assumes nothing.
-use Rattle.std.specs.Prelude.{ℕ, zero, suc, ◌*◌, ◌≤◌, Bool, true, false, List, length, Some, None, Ok, Err, Option, Result, ◌==◌}
+use Rattle.std.specs.Prelude.{ℕ, zero, suc, ◌*◌, ◌≤◌, Bool, true, false, List, length, Some, None, Ok, Err, Option, Result, ◌==◌, IfOk}
 use Rattle.refusals.specs.Questions.{refusing}
 use Rattle.refusals.specs.declared.Question.TheVariants.{GrammarAllows, LevelsOpen}
 use Rattle.refusals.specs.declared.Refusal.{Refusal}
@@ -27,9 +27,9 @@ use Rattle.grammar.specs.declared.token.Lexeme.{Lexeme}
 use Rattle.grammar.specs.Atoms.{number_of}
 use Rattle.grammar.specs.Grammar.{Level, alternatives, conjunctions, sequences, prefixes, starred, bases}
 use Rattle.grammar.specs.Parsing.{joins, unexpected}
-use Rattle.grammar.specs.Tokens.{Token, bar, ampersand, bang, asterisk, opening, closing, nought, one, dot, bracket, Lexed, end, bad, token, begins_some, head, leads, place, rest, sign_of}
+use Rattle.grammar.specs.Tokens.{Token, nought, one, dot, bracket, Lexed, end, bad, token, begins_some, head, leads, place, rest, sign_of}
 use Rattle.nodes.specs.declared.form.Form.{Form}
-use Rattle.nodes.specs.Entering.{Held, Out}
+use Rattle.nodes.specs.Entering.{Held, Out, bind}
 use Rattle.passes.specs.declared.binary.Binary.{Binary}
 use Rattle.passes.specs.declared.part.Part.{Part}
 use Rattle.surveys.specs.declared.reader.Reader.{Reader}
@@ -45,19 +45,11 @@ Step = Form → Held → Out
 abbrev pub checked : Step
 checked f h = (Ok 0, h)
 
-abbrev pub go_by : Result (ℕ × Lexed) Refusal → Held → (ℕ → Lexed → Held → Answer) → Answer
-go_by (Ok x) h f = f x.0 x.1 h
-go_by (Err r) h f = (Err r, h)
-
 abbrev pub go : Answer → (ℕ → Lexed → Held → Answer) → Answer
-go a f = go_by a.0 a.1 f
-
-abbrev pub with_by : Result ℕ Refusal → Held → (ℕ → Held → Answer) → Answer
-with_by (Ok n) h f = f n h
-with_by (Err r) h f = (Err r, h)
+go a f = bind a (λ x h. f x.0 x.1 h)
 
 abbrev pub with : Out → (ℕ → Held → Answer) → Answer
-with o f = with_by o.0 o.1 f
+with o f = bind o f
 
 abbrev pub over : Lexed → Held → (Lexed → Answer) → Answer
 over (end p) h f = f (end p)
@@ -95,17 +87,11 @@ onset Binary.And s l = after s l.after
 onset Binary.Sequence s l = standing s l
 
 abbrev pub leaf_in : (List ℕ → ℕ) → Option Token → Option Form
-leaf_in names None = None
-leaf_in names (Some bar) = None
-leaf_in names (Some ampersand) = None
-leaf_in names (Some bang) = None
-leaf_in names (Some asterisk) = None
-leaf_in names (Some opening) = None
-leaf_in names (Some closing) = None
 leaf_in names (Some nought) = Some Form.None
 leaf_in names (Some one) = Some Form.Empty
 leaf_in names (Some dot) = Some Form.Any
 leaf_in names (Some (bracket s)) = Some (Form.Atom (names s))
+leaf_in names o = None
 
 abbrev pub names_of : Reader → List ℕ → ℕ
 names_of s = number_of (texts_in s.text.now (listed s.atoms))
@@ -180,8 +166,7 @@ answered s (Ok x) = Ok (x.node, standing s x.next)
 answered s (Err r) = Err r
 
 abbrev pub LiesFrom : List ℕ → ℕ → Result Lexeme Refusal → Type 0
-LiesFrom text p (Ok l) = Stands text l × (p ≤ l.place)
-LiesFrom text p (Err r) = Unit {0}
+LiesFrom text p r = IfOk r (λ l. Stands text l × (p ≤ l.place))
 
 -- A pass over a whole text: a form, and then the end.
 abbrev pub ended_by : ℕ → Lexed → Result ℕ Refusal

@@ -24,12 +24,7 @@ impl<'r, 't> Walk<'r, 't> {
         ensures lent { S.memory sink.new ≡ S.memory sink.old }
     {
         let left = self.operand(sink, binary)?;
-        Walk {
-            first: left.next,
-            reader: self.reader,
-            levels: self.levels,
-        }
-        .grow(sink, binary, left.node)
+        self.at(left.next).grow(sink, binary, left.node)
     }
 
     /// Goes on from the left operand as long as others follow.
@@ -38,20 +33,13 @@ impl<'r, 't> Walk<'r, 't> {
         ensures grown { GrownFrom S.step self.entry (level_of binary) node (S.pool sink.old) result (S.pool sink.new) }
         ensures lent { S.memory sink.new ≡ S.memory sink.old }
     {
-        let Walk {
-            first,
-            reader,
-            levels,
-        } = self;
-        let mut part = Part { node, next: first };
+        let mut part = Part {
+            node,
+            next: self.first,
+        };
         while binary.joins(part.next.token) {
-            let first = binary.start(reader, part.next)?;
-            let here = Walk {
-                first,
-                reader,
-                levels,
-            };
-            let right = here.operand(sink, binary)?;
+            let first = binary.start(self.reader, part.next)?;
+            let right = self.at(first).operand(sink, binary)?;
             let node = sink.put(binary.form(part.node, right.node))?;
             part = Part { node, ..right };
         }
@@ -80,14 +68,7 @@ impl<'r, 't> Walk<'r, 't> {
         let Token::Bang = self.first.token else {
             return self.repeated(sink);
         };
-        let levels = self.levels_inside()?;
-        let first = advance(self.reader, self.first.after)?;
-        let part = Walk {
-            first,
-            reader: self.reader,
-            levels,
-        }
-        .prefix(sink)?;
+        let part = self.inside()?.prefix(sink)?;
         let node = sink.put(Form::Not(part.node))?;
         Ok(Part { node, ..part })
     }
@@ -99,12 +80,7 @@ impl<'r, 't> Walk<'r, 't> {
         ensures lent { S.memory sink.new ≡ S.memory sink.old }
     {
         let part = self.base(sink)?;
-        Walk {
-            first: part.next,
-            reader: self.reader,
-            levels: self.levels,
-        }
-        .stars(sink, part.node)
+        self.at(part.next).stars(sink, part.node)
     }
 
     /// A form of one token, or one in parentheses.
@@ -129,14 +105,7 @@ impl<'r, 't> Walk<'r, 't> {
         ensures goes { GoesFrom S.step self.entry bases (S.pool sink.old) result (S.pool sink.new) }
         ensures lent { S.memory sink.new ≡ S.memory sink.old }
     {
-        let levels = self.levels_inside()?;
-        let first = advance(self.reader, self.first.after)?;
-        let part = Walk {
-            first,
-            reader: self.reader,
-            levels,
-        }
-        .group(sink, Binary::Or)?;
+        let part = self.inside()?.group(sink, Binary::Or)?;
         let Token::Closing = part.next.token else {
             return Err(Question::GrammarAllows.at(part.next.place));
         };

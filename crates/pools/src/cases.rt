@@ -1,4 +1,5 @@
 //! Cases: a call, and the pool that it is made on.
+use anyhow::Context;
 use nodes::{Form, Node, NodeKind};
 use std::alloc::Global;
 
@@ -86,7 +87,10 @@ fn field(number: usize) -> u16 {
 }
 
 fn kind_of(number: usize) -> anyhow::Result<NodeKind> {
-    Ok(NodeKind::try_from(u8::try_from(number)?)?)
+    u8::try_from(number)
+        .ok()
+        .and_then(|number| NodeKind::try_from(number).ok())
+        .context("no such kind")
 }
 
 fn form_of(kind: NodeKind, left: u16, right: u16) -> Form {

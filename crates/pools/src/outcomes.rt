@@ -1,14 +1,13 @@
 //! What comes of a call, as a line of text.
 use crate::cases::{Call, Case};
 use derivatives::derive;
-use nodes::{Node, enter, first_unsound};
-use numbering::Book;
+use nodes::{Node, Pool, enter, first_unsound};
 use refusals::Refusal;
 use std::alloc::{AllocError, Global};
 
 pub fn of_call(heap: Global, case: &Case) -> anyhow::Result<String> {
     let mut after = Vec::from_slice(heap, case.nodes.as_slice())?;
-    let mut pool = Book {
+    let mut pool = Pool {
         items: after.as_mut_slice(),
         count: case.count,
     };
@@ -47,16 +46,8 @@ fn answered(
 fn add_changes(line: &mut String, before: &[Node], after: &[Node]) -> anyhow::Result<()> {
     for (place, (old, new)) in before.iter().zip(after.iter()).enumerate() {
         if old != new {
-            add_record(line, place, *new)?;
+            write!(line, " ({place} {new})")?;
         }
     }
-    Ok(())
-}
-
-fn add_record(line: &mut String, place: usize, node: Node) -> anyhow::Result<()> {
-    let kind = node.kind.number();
-    let flag = u8::from(node.nullable);
-    let Node { left, right, .. } = node;
-    write!(line, " ({place} {kind} {left} {right} {flag})")?;
     Ok(())
 }

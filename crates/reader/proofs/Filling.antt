@@ -10,11 +10,11 @@ use Rattle.grammar.specs.Parsing.{Read, ahead, bases_by, closed, closed_by, grow
 use Rattle.grammar.specs.Tokens.{bar, ampersand, bang, asterisk, opening, closing, nought, one, dot, bracket, Lexed, end, bad, token, leads, rest}
 use Rattle.grammar.proofs.Steps.{err_never, ok_parts, then_ok, past_ok}
 use Rattle.nodes.specs.declared.form.Form.{Form}
-use Rattle.nodes.specs.Entering.{Held, Out, bind, entered}
+use Rattle.nodes.specs.Entering.{Held, Out, bind, entered, bind_by}
 use Rattle.nodes.specs.Trees.{entered_tree}
 use Rattle.passes.specs.declared.binary.Binary.{Binary}
 use Rattle.reader.proofs.Checking.{over-opens}
-use Rattle.passes.specs.Passing.{Answer, Grows, Reads, basing, go, grow_by, grow_into, growing, inside, joining, level_of, negating, onset_of, over, read_by, read_into, shut, starring, tighter, with, with_by}
+use Rattle.passes.specs.Passing.{Answer, Grows, Reads, basing, go, grow_by, grow_into, growing, inside, joining, level_of, negating, onset_of, over, read_by, read_into, shut, starring, tighter, with}
 
 abbrev pub placed : Out → Lexed → Answer
 placed o us = with o (λ n h. (Ok (n, us), h))
@@ -23,21 +23,21 @@ placed o us = with o (λ n h. (Ok (n, us), h))
 go-placed : (o : Out) (vs : Lexed) (f : ℕ → Lexed → Held → Answer) → go (placed o vs) f ≡ with o (λ l g. f l vs g)
 go-placed o vs f = by o.0 o.1
   where
-    by : (a : Result ℕ Refusal) (h : Held) → go (with_by a h (λ n g. (Ok (n, vs), g))) f ≡ with_by a h (λ l g. f l vs g)
+    by : (a : Result ℕ Refusal) (h : Held) → go (bind_by a h (λ n g. (Ok (n, vs), g))) f ≡ bind_by a h (λ l g. f l vs g)
     by (Ok n) h = refl
     by (Err e) h = refl
 
 with-bind : (o : Out) (f : ℕ → Held → Out) (g : ℕ → Held → Answer) → with (bind o f) g ≡ with o (λ l h. with (f l h) g)
 with-bind o f g = by o.0 o.1
   where
-    by : (a : Result ℕ Refusal) (h : Held) → with (bind (a, h) f) g ≡ with_by a h (λ l i. with (f l i) g)
+    by : (a : Result ℕ Refusal) (h : Held) → with (bind (a, h) f) g ≡ bind_by a h (λ l i. with (f l i) g)
     by (Ok n) h = refl
     by (Err e) h = refl
 
 with_same : (o : Out) (f g : ℕ → Held → Answer) → ((l : ℕ) (h : Held) → f l h ≡ g l h) → with o f ≡ with o g
 with_same o f g same = by o.0 o.1
   where
-    by : (a : Result ℕ Refusal) (h : Held) → with_by a h f ≡ with_by a h g
+    by : (a : Result ℕ Refusal) (h : Held) → bind_by a h f ≡ bind_by a h g
     by (Ok n) h = same n h
     by (Err e) h = refl
 

@@ -12,12 +12,12 @@ use Rattle.grammar.specs.Parsing.{Read, parsed_text, read, whole, wholly}
 use Rattle.grammar.specs.Tokens.{Lexed, end, bad, token}
 use Rattle.grammar.proofs.OneTree.{text_sound}
 use Rattle.nodes.specs.declared.node.Node.{Node}
-use Rattle.nodes.specs.Entering.{Held, Out, entered, held}
+use Rattle.nodes.specs.Entering.{Held, Out, entered, held, bind_by}
 use Rattle.nodes.specs.Trees.{entered_tree}
 use Rattle.surveys.specs.declared.entry.Entry.{Entry}
 use Rattle.surveys.specs.declared.reader.Reader.{Reader}
 use Rattle.surveys.specs.Entries.{entries, listed, texts_in}
-use Rattle.passes.specs.Passing.{Step, checked, ended, ended_by, ended_of, names_of, passed_into, read_into, settled, with_by}
+use Rattle.passes.specs.Passing.{Step, checked, ended, ended_by, ended_of, names_of, passed_into, read_into, settled}
 use Rattle.reader.specs.Reading.{Outcome, after_asking, after_entering, after_parsing, filled, first_held, passing, read_text, room_asked, rooted, slice}
 use Rattle.surveys.specs.Surveying.{Surveyed}
 use Rattle.reader.proofs.Checking.{checks, numbered}
@@ -65,7 +65,7 @@ wholly_end (Ok x) r e = by x.1 refl e
 ended-placed : (o : Out) (p : ℕ) → ended (placed o (end p)) ≡ o
 ended-placed o p = by o.0 o.1
   where
-    by : (a : Result ℕ Refusal) (h : Held) → ◌≡◌ {A = Out} (ended (with_by a h (λ n g. (Ok (n, end p), g)))) (a, h)
+    by : (a : Result ℕ Refusal) (h : Held) → ◌≡◌ {A = Out} (ended (bind_by a h (λ n g. (Ok (n, end p), g)))) (a, h)
     by (Ok n) h = refl
     by (Err e) h = refl
 

@@ -9,7 +9,7 @@
 --   Wrong text a         if a is the grammar's refusal of a token, or of the end, it is the first such
 --   ReadingMeans text items es o   what the outcome o says, and what it leaves, where items and es were there before
 -- Assumes nothing.
-use Rattle.std.specs.Prelude.{◌≡◌, ℕ, ◌<◌, ◌≤◌, ◌⊎◌, ◌↔◌, List, length, take, Ok, Err, Result}
+use Rattle.std.specs.Prelude.{◌≡◌, ℕ, ◌<◌, ◌≤◌, ◌⊎◌, ◌↔◌, List, length, take, Ok, Err, Result, IfErr}
 use Rattle.languages.specs.Rules.{Rule, Same}
 use Rattle.refusals.specs.declared.Question.TheVariants.{GrammarAllows, NodeRoom}
 use Rattle.refusals.specs.declared.Refusal.{Refusal}
@@ -54,8 +54,7 @@ Left (Err f) same = (f.question ≡ NodeRoom) ⊎ same
 
 -- The refusal of a token by the grammar comes at the first that nothing of the grammar can begin with.
 abbrev pub Wrong : List ℕ → Result Reading Refusal → Type 0
-Wrong text (Ok r) = Unit {0}
-Wrong text (Err f) = f.question ≡ GrammarAllows → FirstWrong (number_of (atoms (lexed text))) f.place (tokens text)
+Wrong text a = IfErr a (λ f. f.question ≡ GrammarAllows → FirstWrong (number_of (atoms (lexed text))) f.place (tokens text))
 
 pub record ReadingMeans (text : List ℕ) (items : List Node) (es : List Entry) (o : Outcome) : Type 0 where
   -- Where the sizes fit, the text is not refused exactly when it writes a rule within the limits.

@@ -4,7 +4,7 @@
 --   answer t n     what reading the text t into a pool of n nodes answers
 --   WorkedTexts    readings worked out by hand
 -- Assumes nothing.
-use Rattle.std.specs.Prelude.{◌≡◌, ℕ, zero, suc, List, [], ◌∷◌, Ok, Err, codes, Result}
+use Rattle.std.specs.Prelude.{◌≡◌, ℕ, List, Ok, Err, codes, Result, replicate}
 use Prim.Native.String.{String as Text}
 use Rattle.refusals.specs.Questions.{refusing}
 use Rattle.refusals.specs.declared.Question.TheVariants.{TextLength, BracketClosed, GrammarAllows, NodeRoom}
@@ -15,15 +15,11 @@ use Rattle.surveys.specs.declared.entry.Entry.{Entry}
 use Rattle.reader.specs.declared.source.Reading.{Reading}
 use Rattle.reader.specs.Reading.{read_text}
 
-abbrev pub copies : {X : Type 0} → ℕ → X → List X
-copies zero x = []
-copies (suc n) x = x ∷ copies n x
-
 abbrev pub pool : ℕ → List Node
-pool n = copies n none_node
+pool n = replicate n none_node
 
 abbrev pub places : List Entry
-places = copies 32 (record { place = 0; length = 0 })
+places = replicate 32 (record { place = 0; length = 0 })
 
 abbrev pub answer : Text → ℕ → Result Reading Refusal
 answer t n = (read_text (codes t) (pool n) places).0

@@ -1,10 +1,13 @@
--- The questions, each with its number and its layer: the one definition of both.
---   numbered q    the number that a technician sees
---   layered q     the part of the work that asks q
---   refusing q p a no to q at the place p
---   first_no qs   the refusal of the first question of a list whose answer is no
+-- The questions, each with its number and its layer: the one definition of both. And how they are printed.
+--   numbered q      the number that a technician sees
+--   layered q       the part of the work that asks q
+--   refusing q p    a no to q at the place p
+--   first_no qs     the refusal of the first question of a list whose answer is no
+--   worded l        the word for a layer
+--   shown_number q  the number of q in decimal digits
+--   shown r         the number, and the place: "32 at 6"
 -- Assumes nothing.
-use Rattle.std.specs.Prelude.{ℕ, Bool, cond, List, [], ◌∷◌, Some, None, Option}
+use Rattle.std.specs.Prelude.{ℕ, Bool, cond, List, [], ◌∷◌, ◌++◌, Some, None, Option, codes, decimal}
 use Rattle.refusals.specs.declared.Layer.{Layer}
 use Rattle.refusals.specs.declared.Layer.TheVariants.{Text, Pool, Alphabet, Build, File, Run}
 use Rattle.refusals.specs.declared.Question.{Question}
@@ -52,3 +55,17 @@ refusing q p = record { question = q; place = p }
 abbrev pub first_no : List (Bool × Refusal) → Option Refusal
 first_no [] = None
 first_no (q ∷ qs) = cond q.0 (first_no qs) (Some q.1)
+
+abbrev pub worded : Layer → List ℕ
+worded Text = codes "text"
+worded Pool = codes "pool"
+worded Alphabet = codes "alphabet"
+worded Build = codes "build"
+worded File = codes "file"
+worded Run = codes "run"
+
+abbrev pub shown_number : Question → List ℕ
+shown_number q = decimal (numbered q)
+
+abbrev pub shown : Refusal → List ℕ
+shown r = shown_number r.question ++ (codes " at " ++ decimal r.place)

@@ -1,8 +1,8 @@
 //! The questions that the library asks of what it is given, and the refusal that a no makes.
 #![tactic(auto)]
 
-ghost use Rattle.std.specs.Prelude.{◌≡◌};
-ghost use Rattle.refusals.specs.Questions.{numbered, layered, refusing};
+ghost use Rattle.std.specs.Prelude.{◌≡◌, Some};
+ghost use Rattle.refusals.specs.Questions.{numbered, layered, refusing, worded, shown_number, shown};
 
 use std::error::Error;
 use std::fmt;
@@ -108,8 +108,26 @@ pub struct Refusal {
     pub place: usize,
 }
 
+/// The layer's word.
+impl fmt::Display for Layer {
+    ghost output = { λ l. Some (worded l) };
+
+    fn fmt<W: fmt::Write>(&self, f: &mut fmt::Formatter<W>) -> fmt::Result {
+        f.write_str(match self {
+            Layer::Text => "text",
+            Layer::Pool => "pool",
+            Layer::Alphabet => "alphabet",
+            Layer::Build => "build",
+            Layer::File => "file",
+            Layer::Run => "run",
+        })
+    }
+}
+
 /// The question's number.
 impl fmt::Display for Question {
+    ghost output = { λ q. Some (shown_number q) };
+
     fn fmt<W: fmt::Write>(&self, f: &mut fmt::Formatter<W>) -> fmt::Result {
         write!(f, "{}", self.number())
     }
@@ -117,6 +135,8 @@ impl fmt::Display for Question {
 
 /// The number and the place; `wording` says the same in sentences.
 impl fmt::Display for Refusal {
+    ghost output = { λ r. Some (shown r) };
+
     fn fmt<W: fmt::Write>(&self, f: &mut fmt::Formatter<W>) -> fmt::Result {
         write!(f, "{} at {}", self.question, self.place)
     }

@@ -108,7 +108,7 @@ impl Memory {
             count: 0,
         };
         let _ = rows.number(reading.root);
-        let mut pool = Book {
+        let mut pool = Pool {
             items: &mut self.nodes,
             count: reading.nodes,
         };

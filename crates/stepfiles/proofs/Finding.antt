@@ -1,8 +1,8 @@
 -- What `first_below` finds. Assumes nothing.
 use Rattle.std.proofs.Common.{◌≡◌, ℕ, zero, suc, ◌+◌, ◌<◌, true, false, is_some, Some, None, Option, refl, inl, inr, add-one, arith}
 use Rattle.std.proofs.lemmas.Bool.{cases_eq}
-use Rattle.std.specs.Option.{option_map}
-use Rattle.stepfiles.specs.Opening.{either, first_below}
+use Rattle.std.specs.Option.{option_map, option_or}
+use Rattle.stepfiles.specs.Opening.{first_below}
 
 pub is_none : {X : Type 0} (o : Option X) → is_some o ≡ false → o ≡ None
 is_none (Some x) e = cc
@@ -12,11 +12,11 @@ pub none_mapped : {X Y : Type 0} (f : X → Y) (o : Option X) → option_map f o
 none_mapped f (Some x) e = cc
 none_mapped f None e = refl
 
-either_first : {X : Type 0} (o p : Option X) → is_some o ≡ true → either o p ≡ o
+either_first : {X : Type 0} (o p : Option X) → is_some o ≡ true → option_or o p ≡ o
 either_first (Some x) p e = refl
 either_first None p e = cc
 
-both_none : {X : Type 0} (o p : Option X) → either o p ≡ None → (o ≡ None) × (p ≡ None)
+both_none : {X : Type 0} (o p : Option X) → option_or o p ≡ None → (o ≡ None) × (p ≡ None)
 both_none (Some x) p e = (e, cc)
 both_none None p e = (refl, e)
 

@@ -2,6 +2,5 @@ pub mod Kinds
 pub mod Layout
 pub mod Coding
 pub mod Opening
-pub mod Closed
 pub mod Proper
 pub mod Views

@@ -9,6 +9,7 @@
 --                    steps, each given what the step found
 --   step_file b      open of b is refused for no reason but a short scratch
 -- Assumes nothing.
+use Rattle.std.specs.Option.{option_or}
 use Rattle.std.specs.Prelude.{ℕ, zero, suc, ◌+◌, ◌*◌, Bool, cond, not, ◌&&◌, List, [], ◌∷◌, ◌++◌, map, length, drop, is_some, Some, None, Ok, Err, Option, Result, ◌==◌, nat_le, nat_lt, slice_index}
 use Rattle.languages.specs.Marks.{number, worked}
 use Rattle.refusals.specs.Questions.{refusing, first_no}
@@ -16,13 +17,9 @@ use Rattle.refusals.specs.declared.Question.TheVariants.{FileLength, FileVersion
 use Rattle.refusals.specs.declared.Refusal.{Refusal}
 use Rattle.stepfiles.specs.Layout.{byte_at, word_at, length_in, version_in, kind_in, rows_in, classes_in, text_length_in, table_at, row_at, target_at, table_in}
 
-abbrev pub either : {X : Type 0} → Option X → Option X → Option X
-either (Some x) later = Some x
-either None later = later
-
 unfoldable pub first_below : {X : Type 0} → (ℕ → Option X) → ℕ → Option X
 first_below f zero = None
-first_below f (suc n) = either (first_below f n) (f n)
+first_below f (suc n) = option_or (first_below f n) (f n)
 
 abbrev pub header : List ℕ → List (Bool × Refusal)
 header b =

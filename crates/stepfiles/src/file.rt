@@ -5,7 +5,7 @@ ghost use Rattle.stepfiles.specs.Opening.{step_file};
 use crate::table::Table;
 
 /// A step file that passed every check of `open`. It is the caller's bytes themselves, with what their header says; what
-/// was checked of them is part of the type, and reading a row tests nothing again.
+/// was checked of them is part of the type, and no later step asks any of it again.
 #[derive(Clone, Copy)]
 pub struct StepFile<'a> {
     pub(crate) table: Table<'a>,

@@ -18,8 +18,7 @@ pub(crate) fn check_header(bytes: &[u8]) -> Result<Table<'_>, Refusal>
     let &[l3, l2, l1, l0, version, kind, r1, r0, classes, t1, t0, ..] = bytes else {
         return Err(Question::FileLength.at(0));
     };
-    let length = u32::from_be_bytes([l3, l2, l1, l0]);
-    if length as usize != bytes.len() {
+    if u32::from_be_bytes([l3, l2, l1, l0]) as usize != bytes.len() {
         return Err(Question::FileLength.at(0));
     }
     if version != 1 {

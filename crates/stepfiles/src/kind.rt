@@ -1,6 +1,6 @@
 //! The kinds of alphabets, and the bytes that stand for them.
-ghost use Rattle.std.specs.Prelude.{◌≡◌};
-ghost use Rattle.stepfiles.specs.Kinds.{kind_number, NamesKind};
+ghost use Rattle.std.specs.Prelude.{◌≡◌, Some};
+ghost use Rattle.stepfiles.specs.Kinds.{kind_number, NamesKind, unknown_kind};
 
 use std::error::Error;
 use std::fmt;
@@ -41,6 +41,8 @@ impl TryFrom<u8> for Kind {
 }
 
 impl fmt::Display for UnknownKind {
+    ghost output = { λ e. Some (unknown_kind e) };
+
     fn fmt<W: fmt::Write>(&self, f: &mut fmt::Formatter<W>) -> fmt::Result {
         write!(f, "no kind of alphabet has the number {}", self.0)
     }

@@ -3,8 +3,7 @@
 ghost use Rattle.std.specs.Prelude.{◌≡◌, ◌<◌, true, false, map, length, ◌==◌, bit_and, bit_or};
 ghost use Rattle.languages.specs.Marks.{number, first, gathered, passed_below, begun};
 ghost use Rattle.stepfiles.specs.Layout.{table_in};
-ghost use Rattle.stepfiles.specs.Coding.{marks_in, MarksOf};
-ghost use Rattle.stepfiles.specs.Closed.{table_of};
+ghost use Rattle.stepfiles.specs.Coding.{marks_in, MarksOf, table_of};
 ghost use Rattle.stepfiles.specs.Opening.{worked_in, bad_mark_of, bad_mark};
 
 use crate::table::Table;
@@ -24,6 +23,19 @@ impl Table<'_> {
             Mark::Settled
         } else {
             Mark::Lost
+        }
+    }
+
+    /// The place of a row's mark, if it is not the one worked out.
+    fn bad_mark_of(&self, marks: &[u8], row: usize) -> Option<usize>
+        requires row { row < self.now.rows }
+        requires marks { length marks.now ≡ self.now.rows }
+        ensures { result ≡ bad_mark_of self.now.bytes.now marks.now row }
+    {
+        if self.mark(row) == marks[row] {
+            None
+        } else {
+            Some(self.row_place(row))
         }
     }
 }
@@ -92,21 +104,6 @@ impl ClosedTable<'_> {
         ensures { result ≡ bad_mark self.now.table.bytes.now marks.now }
     {
         (0..self.table.rows).find_map(|row| self.table.bad_mark_of(marks, row))
-    }
-}
-
-impl Table<'_> {
-    /// The place of a row's mark, if it is not the one worked out.
-    fn bad_mark_of(&self, marks: &[u8], row: usize) -> Option<usize>
-        requires row { row < self.now.rows }
-        requires marks { length marks.now ≡ self.now.rows }
-        ensures { result ≡ bad_mark_of self.now.bytes.now marks.now row }
-    {
-        if self.mark(row) == marks[row] {
-            None
-        } else {
-            Some(self.row_place(row))
-        }
     }
 }
 

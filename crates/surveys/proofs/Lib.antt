@@ -1,3 +1,4 @@
+pub mod Padding
 pub mod Known
 pub mod Advancing
 pub mod Spelling

@@ -2,21 +2,22 @@
 --   Found text es at   with the entries es found in the text before the place at, the rest of it has the others
 --   Last text es p     the entries es are the first 32 of the text, and its horizon is p
 -- Assumes nothing.
-use Rattle.std.proofs.Common.{◌≡◌, ℕ, ◌<◌, ◌≤◌, Bool, true, false, cond, ltb, List, [], ◌∷◌, ◌++◌, length, take, Some, None, Ok, Err, IsSome, Option, Result, sym, refl, ap, ◌∙◌, subst, append_assoc, append-nil, arith}
+use Rattle.std.proofs.Common.{◌≡◌, ℕ, ◌<◌, ◌≤◌, Bool, true, false, cond, ltb, List, [], ◌∷◌, ◌++◌, length, take, Some, None, Ok, Err, Option, Result, sym, refl, ap, ◌∙◌, subst, append_assoc, append-nil, arith}
 use lib.ListN.{length-map}
 use Rattle.std.proofs.lemmas.List.{length_push, map_push, take_all, take-append-le}
-use Rattle.std.proofs.lemmas.Bool.{cond-true, cond-false, le-ltb, lt-ltb, ltb-true, ltb-false, false≢true}
+use Rattle.std.proofs.lemmas.Bool.{cond-true, cond-false, le-ltb, lt-ltb, ltb-true, ltb-false}
 use Rattle.refusals.specs.declared.Refusal.{Refusal}
 use Rattle.grammar.specs.Atoms.{among, horizon_from, horizon_in, met, met_in}
 use Rattle.grammar.specs.Lexing.{Piece, lexed, lexed_at, lexed_from, onward, onward_by}
 use Rattle.grammar.proofs.Cutting.{lexed_from_step}
 use Rattle.surveys.specs.declared.lexemes.Lexemes.{Lexemes}
 use Rattle.surveys.specs.Lexemes.{Moves, Over}
-use Rattle.grammar.specs.Sighting.{token_of}
+use Rattle.grammar.specs.Sighting.{sighted, token_of}
 use Rattle.grammar.specs.declared.token.Lexeme.{Lexeme}
 use Rattle.grammar.specs.Tokens.{Token, bar, ampersand, bang, asterisk, opening, closing, nought, one, dot, bracket, Lexed, end, bad, token}
 use Rattle.surveys.specs.declared.entry.Entry.{Entry}
 use Rattle.surveys.specs.Entries.{Meeting, entries, entries_from, entries_in, entry_at, taking, text_at, texts_in}
+use Rattle.surveys.specs.Looking.{Stands, StandsBy}
 use Rattle.surveys.proofs.Advancing.{sighted_on}
 use Rattle.surveys.proofs.Spelling.{Spelled, SpelledBy, spelled}
 
@@ -99,18 +100,22 @@ module _ (text : List ℕ) (es : List Entry) (s : List ℕ) (p : ℕ) (ts : Lexe
   met-among spelled true is = known is
   met-among spelled false is = met_room spelled is (ltb (length es) 32) refl
 
-pub found_more : (text : List ℕ) (es : List Entry) (o : Option Token) (p q : ℕ) → SpelledBy text o p → IsSome o → FoundBy text es (onward_by (lexed_from text) o p q) → Taken text p (lexed_from text q) (taking text es p o)
-found_more text es None p q spelled some f = absurd (false≢true some)
-found_more text es (Some bar) p q spelled some f = passed text es bar p (lexed_from text q) refl refl f
-found_more text es (Some ampersand) p q spelled some f = passed text es ampersand p (lexed_from text q) refl refl f
-found_more text es (Some bang) p q spelled some f = passed text es bang p (lexed_from text q) refl refl f
-found_more text es (Some asterisk) p q spelled some f = passed text es asterisk p (lexed_from text q) refl refl f
-found_more text es (Some opening) p q spelled some f = passed text es opening p (lexed_from text q) refl refl f
-found_more text es (Some closing) p q spelled some f = passed text es closing p (lexed_from text q) refl refl f
-found_more text es (Some nought) p q spelled some f = passed text es nought p (lexed_from text q) refl refl f
-found_more text es (Some one) p q spelled some f = passed text es one p (lexed_from text q) refl refl f
-found_more text es (Some dot) p q spelled some f = passed text es dot p (lexed_from text q) refl refl f
-found_more text es (Some (bracket s)) p q spelled some f = met-among text es s p (lexed_from text q) f spelled (among (texts_in text es) s) refl
+pub found_more : (text : List ℕ) (es : List Entry) (o : Option Token) (p q : ℕ) → SpelledBy text o p → (o ≡ None → p ≡ length text) → FoundBy text es (onward_by (lexed_from text) o p q) → Taken text p (lexed_from text q) (taking text es p o)
+found_more text es None p q spelled last f = let e = last refl in rw e (found_end text es p f)
+found_more text es (Some bar) p q spelled last f = passed text es bar p (lexed_from text q) refl refl f
+found_more text es (Some ampersand) p q spelled last f = passed text es ampersand p (lexed_from text q) refl refl f
+found_more text es (Some bang) p q spelled last f = passed text es bang p (lexed_from text q) refl refl f
+found_more text es (Some asterisk) p q spelled last f = passed text es asterisk p (lexed_from text q) refl refl f
+found_more text es (Some opening) p q spelled last f = passed text es opening p (lexed_from text q) refl refl f
+found_more text es (Some closing) p q spelled last f = passed text es closing p (lexed_from text q) refl refl f
+found_more text es (Some nought) p q spelled last f = passed text es nought p (lexed_from text q) refl refl f
+found_more text es (Some one) p q spelled last f = passed text es one p (lexed_from text q) refl refl f
+found_more text es (Some dot) p q spelled last f = passed text es dot p (lexed_from text q) refl refl f
+found_more text es (Some (bracket s)) p q spelled last f = met-among text es s p (lexed_from text q) f spelled (among (texts_in text es) s) refl
+
+end_place : (text : List ℕ) (o : Option Token) (p q : ℕ) → StandsBy text o p q → o ≡ None → p ≡ length text
+end_place text None p q h e = h.0
+end_place text (Some t) p q h e = let z : ◌≡◌ {A = ℕ} 0 1 = cc in absurd (omega arith)
 
 found_over_by : (text : List ℕ) (es : List Entry) (o : Option Token) (p q : ℕ) → o ≡ None → FoundBy text es (onward_by (lexed_from text) o p q) → Last text es (length text)
 found_over_by text es None p q over f = found_end text es p f
@@ -120,15 +125,20 @@ found_over : (text : List ℕ) (es : List Entry) (x : Result Piece Refusal) → 
 found_over text es (Ok x) over f = found_over_by text es x.0 x.1 x.2 over f
 found_over text es (Err r) over f = found_bad text es r f
 
--- The same for the steps of the code.
-module _ (text : List ℕ) (es : List Entry) (s : Lexemes) (row : s.text.now ≡ text) (f : Found text es s.at) where
-  pub found_taken : (l : Lexeme) (t : Lexemes) (b : Bool) (more : List Entry) → Moves s (Some l) t → ◌≡◌ {A = Meeting} (b, more) (taking text es l.place (token_of l.token)) → Taken text l.place (lexed_from text l.after) (b, more)
-  found_taken l t b more moves is =
-      let seen = moves.0 ∙ ap (λ u. lexed_at u s.at) row in
+-- The same for the code's lexemes.
+module _ (text : List ℕ) (es : List Entry) (at : ℕ) (f : Found text es at) where
+  pub found_taken : (l : Lexeme) (b : Bool) (more : List Entry) → sighted (Ok l) ≡ lexed_at text at → Stands text l → ◌≡◌ {A = Meeting} (b, more) (taking text es l.place (token_of l.token)) → Taken text l.place (lexed_from text l.after) (b, more)
+  found_taken l b more seen stands is =
       let P : Result Piece Refusal → Type 0 = Spelled text in
       let Q : Meeting → Type 0 = Taken text l.place (lexed_from text l.after) in
       let R : Lexed → Type 0 = FoundBy text es in
-      subst Q (sym is) (found_more text es (token_of l.token) l.place l.after (subst P (sym seen) (spelled text s.at)) moves.2 (subst R (sighted_on text s.at (Ok l) seen) f))
+      subst Q (sym is) (found_more text es (token_of l.token) l.place l.after (subst P (sym seen) (spelled text at)) (end_place text (token_of l.token) l.place l.after stands) (subst R (sighted_on text at (Ok l) seen) f))
+
+-- The same for the steps of the code.
+module _ (text : List ℕ) (es : List Entry) (s : Lexemes) (row : s.text.now ≡ text) (f : Found text es s.at) where
+  pub found_moved : (l : Lexeme) (t : Lexemes) (b : Bool) (more : List Entry) → Moves s (Some l) t → ◌≡◌ {A = Meeting} (b, more) (taking text es l.place (token_of l.token)) → Taken text l.place (lexed_from text l.after) (b, more)
+  found_moved l t b more moves is =
+      found_taken text es s.at f l b more (moves.0 ∙ ap (λ u. lexed_at u s.at) row) (subst (λ u. Stands u l) row moves.1) is
 
   pub found_all : Over (lexed_at s.text.now s.at) → Last text es (length text)
   found_all over =

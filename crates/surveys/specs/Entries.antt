@@ -9,7 +9,7 @@
 --   listed a            the entries of the atoms in use
 --   Meeting             whether a bracket is an atom, and the entries afterwards
 --   meeting text es p s    meeting a bracket at the place p with the bytes s, where es are known; 32 at the most
---   taking text es p t     meeting the token t at the place p: only a bracket is an atom
+--   taking text es p t     meeting the token t at the place p: only a bracket is an atom. No at the end too
 -- Assumes nothing.
 use Rattle.std.specs.Prelude.{ℕ, ◌+◌, Bool, true, false, cond, List, [], ◌∷◌, ◌++◌, map, length, take, drop, Some, None, Option, nat_lt, position}
 use Rattle.std.specs.Str.{bytes_eq}
@@ -62,7 +62,7 @@ meeting text es p s =
     (cond (nat_lt (length es) 32) (true, es ++ (entry_at p s ∷ [])) (false, es))
 
 abbrev pub taking : List ℕ → List Entry → ℕ → Option Token → Meeting
-taking text es p None = (true, es)
+taking text es p None = (false, es)
 taking text es p (Some bar) = (true, es)
 taking text es p (Some ampersand) = (true, es)
 taking text es p (Some bang) = (true, es)

@@ -1,3 +1,4 @@
+pub mod Padding
 pub mod Entries
 pub mod Looking
 pub mod Lexemes

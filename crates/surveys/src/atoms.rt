@@ -1,6 +1,7 @@
 //! The atoms of a text, numbered as they are first met.
-ghost use Rattle.std.specs.Prelude.{◌≡◌, ◌<◌, ◌≤◌, [], IfSome, length};
-ghost use Rattle.surveys.specs.Entries.{Meeting, listed, meeting, numbered};
+ghost use Rattle.std.specs.Prelude.{◌≡◌, ◌<◌, ◌≤◌, [], IfSome, length, unwrap_or};
+ghost use Rattle.grammar.specs.Atoms.{number_of};
+ghost use Rattle.surveys.specs.Entries.{Meeting, listed, meeting, numbered, texts_in};
 
 use crate::entry::Entry;
 use std::marker::Model;
@@ -8,22 +9,29 @@ use std::marker::Model;
 /// The most atoms of a text.
 pub const MOST_ATOMS: usize = 32;
 
-/// Atoms by number: the places in use are the first `count`. Clauses see the entries in use.
-#[derive(Drop)]
+/// Atoms by number: the places in use are the first `count`, and the others are as they were made. Clauses see the entries
+/// in use, which tell the others too.
+#[derive(Clone, Copy)]
 pub struct Atoms {
     entries: [Entry; MOST_ATOMS],
     count: usize,
 }
 
 impl Model for Atoms {
-    ghost use Rattle.std.specs.Prelude.{◌≡◌, ◌≤◌, List, length, take};
+    ghost use Rattle.std.specs.Prelude.{List, length, take};
     ghost use Rattle.surveys.specs.declared.entry.Entry.{Entry};
+    ghost use Rattle.surveys.specs.Padding.{IsPadded, padded, padded_is, used_is};
+    ghost use Rattle.std.proofs.Common.{refl};
 
     ghost Value = { List Entry };
 
     ghost view = { λ a. take a.count a.entries };
 
-    ghost invariant = { λ a. (a.count ≤ 32) × (length a.entries ≡ 32) };
+    ghost invariant = { λ a. IsPadded a.count a.entries };
+
+    ghost inverse = { λ es. record { entries = padded es; count = length es } };
+
+    ghost inverse_ok = { λ a h. rw (padded_is a.count a.entries h, used_is a.count a.entries h) refl };
 }
 
 impl Atoms {
@@ -53,8 +61,19 @@ impl Atoms {
         self.as_slice().len()
     }
 
-    /// The number of the first atom that is written as `inside`, if there is one.
+    /// The number of the first atom that is written as `inside`, if there is one. The grammar's number of an
+    /// atom that is not there is how many there are.
+    #[tactic(auto, using(crate::proofs::Known::number_is))]
     pub fn number(&self, text: &[u8], inside: &[u8]) -> Option<usize>
+        ensures value { result ≡ numbered text.now (listed self.now) inside.now }
+        ensures names { unwrap_or result (length (listed self.now)) ≡ number_of (texts_in text.now (listed self.now)) inside.now }
+        ensures most { IfSome result (λ n. n < 32) }
+    {
+        self.first_written(text, inside)
+    }
+
+    /// The place of the first entry that is written as `inside`, if there is one.
+    fn first_written(&self, text: &[u8], inside: &[u8]) -> Option<usize>
         ensures value { result ≡ numbered text.now (listed self.now) inside.now }
         ensures most { IfSome result (λ n. n < 32) }
     {

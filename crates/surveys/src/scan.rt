@@ -23,13 +23,15 @@ pub fn survey<'t>(text: &'t [u8]) -> Reader<'t>
     reader(text, atoms, text.len())
 }
 
-/// Meets a token, which is an atom only if it is a bracket. Says no where that would be one too many.
+/// Meets a token, which is an atom only if it is a bracket. Says no where that would be one too many, and at the end of
+/// the text too.
 fn take(atoms: &mut Atoms, text: &[u8], lexeme: Lexeme) -> bool
     requires { Stands text.now lexeme }
     ensures { ◌≡◌ {A = Meeting} (result, listed atoms.new) (taking text.now (listed atoms.old) lexeme.entry.place (token_of lexeme.entry.token)) }
 {
     match lexeme.token {
         Token::Bracket(inside) => atoms.meet(text, lexeme.place, inside),
+        Token::End => false,
         _ => true,
     }
 }

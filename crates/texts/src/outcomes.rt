@@ -29,10 +29,10 @@ pub fn of_reading(heap: Global, case: &Case) -> anyhow::Result<String> {
     );
     let mut line = answered(heap, answer)?;
     for node in changed(pool.as_slice(), &STALE_NODE) {
-        add_node(&mut line, *node)?;
+        write!(line, " ({node})")?;
     }
     for entry in changed(atoms.as_slice(), &STALE_ENTRY) {
-        add_entry(&mut line, *entry)?;
+        write!(line, " [{} {}]", entry.place, entry.length)?;
     }
     Ok(line)
 }
@@ -42,21 +42,6 @@ fn answered(heap: Global, answer: Result<Reading, Refusal>) -> Result<String, Al
         Ok(Reading { root, nodes, atoms }) => format!(in heap; "OK {root} {nodes} {atoms}"),
         Err(Refusal { question, place }) => format!(in heap; "REFUSED {question} {place}"),
     }
-}
-
-fn add_node(line: &mut String, node: Node) -> anyhow::Result<()> {
-    let kind = node.kind.number();
-    let left = node.left;
-    let right = node.right;
-    let flag = u8::from(node.nullable);
-    write!(line, " ({kind} {left} {right} {flag})")?;
-    Ok(())
-}
-
-fn add_entry(line: &mut String, entry: Entry) -> anyhow::Result<()> {
-    let Entry { place, length } = entry;
-    write!(line, " [{place} {length}]")?;
-    Ok(())
 }
 
 /// The items up to the last that is not as it was.

@@ -2,4 +2,5 @@ pub mod Escapes
 pub mod Excerpts
 pub mod Lines
 pub mod NodeLines
+pub mod Sayings
 pub mod Words

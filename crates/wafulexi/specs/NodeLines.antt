@@ -1,28 +1,15 @@
 -- The lines that `nodes` prints.
 --   summed r n a      what a reading gave: the root r, n nodes and a atoms
---   kind_word k       the word for a kind
 --   node_line n x     node n with the record x: its number, its kind, its parts, and 1 for the flag yes or 0 for no
 --   atom_line b n p l atom n, which is the l bytes at the place p of the text b: its number, its place and these bytes
 -- Assumes nothing.
 use Rattle.std.specs.Prelude.{ℕ, cond, List, ◌++◌, take, drop, codes, decimal}
 use Rattle.nodes.specs.declared.node.Node.{Node}
-use Rattle.nodes.specs.declared.node.NodeKind.{NodeKind}
-use Rattle.nodes.specs.declared.node.NodeKind.TheVariants as Kind
+use Rattle.nodes.specs.Records.{kind_word}
 use Rattle.wafulexi.specs.Escapes.{escaped}
 
 abbrev pub summed : ℕ → ℕ → ℕ → List ℕ
 summed r n a = codes "root " ++ (decimal r ++ (codes " nodes " ++ (decimal n ++ (codes " atoms " ++ decimal a))))
-
-abbrev pub kind_word : NodeKind → List ℕ
-kind_word Kind.None = codes "none"
-kind_word Kind.Empty = codes "empty"
-kind_word Kind.Any = codes "any"
-kind_word Kind.Atom = codes "atom"
-kind_word Kind.Sequence = codes "sequence"
-kind_word Kind.Or = codes "or"
-kind_word Kind.And = codes "and"
-kind_word Kind.Star = codes "star"
-kind_word Kind.Not = codes "not"
 
 abbrev pub node_line : ℕ → Node → List ℕ
 node_line n x =

@@ -1,4 +1,7 @@
 //! What can go wrong, and the lines on standard error that say it.
+ghost use Rattle.std.specs.Prelude.{Some};
+ghost use Rattle.wafulexi.specs.Sayings.{misuse_text, source_text};
+
 use crate::usage::USAGE;
 use crate::words::{Misuse, Source};
 use refusals::Refusal;
@@ -53,6 +56,8 @@ impl fmt::Display for Failure {
 }
 
 impl fmt::Display for Misuse {
+    ghost output = { λ misuse. Some (misuse_text misuse) };
+
     fn fmt<W: fmt::Write>(&self, f: &mut fmt::Formatter<W>) -> fmt::Result {
         match self {
             Misuse::NoCommand => f.write_str("no command is given"),
@@ -64,6 +69,8 @@ impl fmt::Display for Misuse {
 }
 
 impl fmt::Display for Source {
+    ghost output = { λ source. Some (source_text source) };
+
     fn fmt<W: fmt::Write>(&self, f: &mut fmt::Formatter<W>) -> fmt::Result {
         match self {
             Source::Input => f.write_str("standard input"),

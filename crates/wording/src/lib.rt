@@ -1,10 +1,10 @@
 //! What a refusal says to a technician, on one line.
 #![tactic(auto)]
 
-ghost use Rattle.std.specs.Prelude.{◌≡◌};
-ghost use Rattle.wording.specs.Wording.{worded, Sentence};
+ghost use Rattle.std.specs.Prelude.{◌≡◌, Some};
+ghost use Rattle.wording.specs.Wording.{field_sentences, sentences, line, Sentence};
 
-use refusals::{Layer, Question, Refusal};
+use refusals::{Question, Refusal};
 use std::fmt;
 
 /// A refusal as text: its number, place and layer, what is wrong, and what was expected.
@@ -12,35 +12,25 @@ use std::fmt;
 pub struct Wording(pub Refusal);
 
 impl fmt::Display for Wording {
+    ghost output = { λ w. Some (line w.0) };
+
     fn fmt<W: fmt::Write>(&self, f: &mut fmt::Formatter<W>) -> fmt::Result {
         let Refusal { question, place } = self.0;
-        let number = question.number();
-        let layer = layer_word(question.layer());
+        let layer = question.layer();
         let wrong = wrong(question, place);
         let expected = expected(question, place);
         write!(
             f,
-            "refused {number} at {place} ({layer}): {wrong}; expected {expected}"
+            "refused {} ({layer}): {wrong}; expected {expected}",
+            self.0
         )
-    }
-}
-
-fn layer_word(layer: Layer) -> &'static str
-    ensures { result.now ≡ worded layer }
-{
-    match layer {
-        Layer::Text => "text",
-        Layer::Pool => "pool",
-        Layer::Alphabet => "alphabet",
-        Layer::Build => "build",
-        Layer::File => "file",
-        Layer::Run => "run",
     }
 }
 
 /// What is wrong where a question is answered with no.
 fn wrong(question: Question, place: usize) -> &'static str
-    ensures { Sentence result.now }
+    ensures value { result.now ≡ (sentences question place).0 }
+    ensures sentence { Sentence result.now }
 {
     match question {
         Question::TextLength => "the rule text is empty or too long",
@@ -75,7 +65,8 @@ fn wrong(question: Question, place: usize) -> &'static str
 
 /// What a yes would have needed.
 fn expected(question: Question, place: usize) -> &'static str
-    ensures { Sentence result.now }
+    ensures value { result.now ≡ (sentences question place).1 }
+    ensures sentence { Sentence result.now }
 {
     match question {
         Question::TextLength => "1 to 4096 bytes",
@@ -109,7 +100,8 @@ fn expected(question: Question, place: usize) -> &'static str
 }
 
 fn wrong_field(place: usize) -> &'static str
-    ensures { Sentence result.now }
+    ensures value { result.now ≡ (field_sentences place).0 }
+    ensures sentence { Sentence result.now }
 {
     match place {
         5 => "the kind is unknown",
@@ -120,7 +112,8 @@ fn wrong_field(place: usize) -> &'static str
 }
 
 fn expected_field(place: usize) -> &'static str
-    ensures { Sentence result.now }
+    ensures value { result.now ≡ (field_sentences place).1 }
+    ensures sentence { Sentence result.now }
 {
     match place {
         5 => "kind 1, bytes, or kind 2, bench events",

@@ -1,13 +1,13 @@
 //! `nodes`: what a rule text is read as, in lines of text.
 ghost use Rattle.std.specs.Prelude.{◌≡◌, take, drop, IfOk, string_bytes};
-ghost use Rattle.wafulexi.specs.NodeLines.{summed, node_line, kind_word, atom_line};
+ghost use Rattle.wafulexi.specs.NodeLines.{summed, node_line, atom_line};
 
 use crate::escapes::escaped;
 use crate::excerpts::excerpt;
 use crate::failures::Failure;
 use crate::input;
 use crate::words::Source;
-use nodes::{MOST_NODES, Node, NodeKind};
+use nodes::{MOST_NODES, Node};
 use reader::{Entry, MOST_ATOMS, Reading, read};
 use refusals::{Question, Refusal};
 use std::alloc::{AllocError, Global};
@@ -72,27 +72,14 @@ fn heading(heap: Global, reading: Reading) -> Result<String, AllocError>
 fn node_line(heap: Global, number: usize, node: Node) -> Result<String, AllocError>
     ensures { IfOk result (λ s. string_bytes s ≡ node_line number node) }
 {
-    let kind = kind_word(node.kind);
-    let left = node.left;
-    let right = node.right;
-    let flag = u8::from(node.nullable);
+    let Node {
+        kind,
+        left,
+        right,
+        nullable,
+    } = node;
+    let flag = u8::from(nullable);
     format!(in heap; "{number} {kind} {left} {right} {flag}")
-}
-
-fn kind_word(kind: NodeKind) -> &'static str
-    ensures { result.now ≡ kind_word kind }
-{
-    match kind {
-        NodeKind::None => "none",
-        NodeKind::Empty => "empty",
-        NodeKind::Any => "any",
-        NodeKind::Atom => "atom",
-        NodeKind::Sequence => "sequence",
-        NodeKind::Or => "or",
-        NodeKind::And => "and",
-        NodeKind::Star => "star",
-        NodeKind::Not => "not",
-    }
 }
 
 /// The atom's number, its place, and its part of the text.

@@ -26,8 +26,8 @@ decreases-group g l = 16 * (length l.self.reader.now.text.now - l.self.first.pla
 abbrev pub decreases-grow : goal.decreases-grow
 decreases-grow g l = 16 * (length l.self.reader.now.text.now - l.self.first.place) + 15
 
-abbrev pub invariant-grow-loop-reader : goal.invariant-grow-loop-reader
-invariant-grow-loop-reader g l = Growing g.S.Sink.step l.self.reader.now l.self.levels (level_of l.binary) (record { node = l.node; next = l.self.first }) (g.S.Sink.pool l.initial.sink) l.part (g.S.Sink.pool l.sink) × (g.S.Sink.memory l.sink ≡ g.S.Sink.memory l.initial.sink)
+abbrev pub invariant-grow-loop-binary : goal.invariant-grow-loop-binary
+invariant-grow-loop-binary g l = Growing g.S.Sink.step l.self.reader.now l.self.levels (level_of l.binary) (record { node = l.node; next = l.self.first }) (g.S.Sink.pool l.initial.sink) l.part (g.S.Sink.pool l.sink) × (g.S.Sink.memory l.sink ≡ g.S.Sink.memory l.initial.sink)
 
-abbrev pub decreases-grow-loop-reader : goal.decreases-grow-loop-reader
-decreases-grow-loop-reader g l = length l.self.reader.now.text.now - l.part.next.place
+abbrev pub decreases-grow-loop-binary : goal.decreases-grow-loop-binary
+decreases-grow-loop-binary g l = length l.self.reader.now.text.now - l.part.next.place

@@ -1,20 +1,18 @@
 use Rattle.std.proofs.Common.{Ok, Err, refl}
-use Rattle.std.proofs.lemmas.Result.{err_from_is_err_and}
+use Rattle.passes.proofs.Exits.{err_is}
 use Rattle.passes.proofs.Leaves.{single_refused, single_done, single_onward}
 use Rattle.passes.proofs.walk.Walk.single.Goals as goal
 
 pub returns-in_err-next : goal.returns-in_err-next
 returns-in_err-next g c =
-    let p = err_from_is_err_and c.from_residual.result c.from_residual.ensures.1 in
-    rw (p.1, p.2) (record {
+    rw (err_is c.from_residual.ensures.1) (record {
       goes = record { answer = single_refused _ c.args.self.reader.now _ _ _ _ c.requires _ c.in_err-next.ensures.told; onward = tt };
       lent = refl;
     })
 
 pub returns-in_err-node : goal.returns-in_err-node
 returns-in_err-node g c =
-    let p = err_from_is_err_and c.from_residual-in_err-node.result c.from_residual-in_err-node.ensures.1 in
-    rw (p.1, p.2) (record {
+    rw (err_is c.from_residual-in_err-node.ensures.1) (record {
       goes = record { answer = single_done _ c.args.self.reader.now _ _ _ _ c.requires c.in_ok-next.next (Err _, g.S.Sink.pool c.put.new.self) c.in_ok-next.ensures.told c.in_err-node.ensures.whole; onward = tt };
       lent = c.put.ensures.lent;
     })

@@ -1,14 +1,13 @@
 use Rattle.std.proofs.Common.{Ok, Err, ap, ◌∙◌}
-use Rattle.std.proofs.lemmas.Result.{err_from_is_err_and}
 use Rattle.surveys.specs.Looking.{standing}
+use Rattle.passes.proofs.Exits.{err_is}
 use Rattle.passes.proofs.Signs.{sign_byte}
 use Rattle.passes.proofs.Turning.{growing_exit, growing_more, on_by_sign, star_none, star_refused, star_one}
 use Rattle.passes.proofs.walk.Walk.stars.Goals as goal
 
 pub returns-in_err-next : goal.returns-in_err-next
 returns-in_err-next g c =
-    let p = err_from_is_err_and c.from_residual.result c.from_residual.ensures.1 in
-    rw (p.1, p.2) (record {
+    rw (err_is c.from_residual.ensures.1) (record {
       grown = record {
         answer = growing_exit _ _ _ _ _ _ _ _ c.loop-part.invariant.0 (Err _, g.S.Sink.pool c.loop-part.sink)
             (λ j m. star_refused _ c.args.self.reader.now _ _ _ c.in-Asterisk.is _ c.in_err-next.ensures.told j);
@@ -19,8 +18,7 @@ returns-in_err-next g c =
 
 pub returns-in_err-node : goal.returns-in_err-node
 returns-in_err-node g c =
-    let p = err_from_is_err_and c.from_residual-in_err-node.result c.from_residual-in_err-node.ensures.1 in
-    rw (p.1, p.2) (record {
+    rw (err_is c.from_residual-in_err-node.ensures.1) (record {
       grown = record {
         answer = growing_exit _ _ _ _ _ _ _ _ c.loop-part.invariant.0 (Err _, g.S.Sink.pool c.put.new.self)
             (λ j m. star_one _ c.args.self.reader.now _ _ _ c.in-Asterisk.is c.in_ok-next.next (Err _, g.S.Sink.pool c.put.new.self) c.in_ok-next.ensures.told c.in_err-node.ensures.whole j);

@@ -4,7 +4,7 @@ use Rattle.std.specs.List.{range_with_len}
 use Rattle.std.proofs.lemmas.List.FromFn.{fill_by_all}
 use Rattle.std.proofs.lemmas.List.Edits.{fill_by_more}
 use Rattle.languages.specs.Marks.{number, first, begun}
-use Rattle.stepfiles.specs.Closed.{table_of}
+use Rattle.stepfiles.specs.Coding.{table_of}
 use Rattle.stepfiles.proofs.targets.ClosedTable.begin.Goals as goal
 
 pub loop-row-preserved : goal.loop-row-preserved

@@ -1,6 +1,6 @@
 use Rattle.std.proofs.Common.{◌≡◌, ℕ, ◌<◌, get_or}
 use Rattle.languages.specs.Marks.{number, first}
-use Rattle.stepfiles.specs.Closed.{table_of}
+use Rattle.stepfiles.specs.Coding.{table_of}
 use Rattle.stepfiles.proofs.targets.ClosedTable.begin.Given as goal
 
 -- the rows so far have their first marks

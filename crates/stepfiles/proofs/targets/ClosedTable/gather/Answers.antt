@@ -3,8 +3,7 @@ use lib.Bits.{bit_and}
 use Rattle.languages.specs.declared.marks.Mark.TheVariants.{Lost}
 use Rattle.languages.specs.Marks.{number, gathered}
 use Rattle.languages.proofs.Passing.{gathered_none, gathered_more, gathered_full_more}
-use Rattle.stepfiles.specs.Coding.{marks_in}
-use Rattle.stepfiles.specs.Closed.{table_of}
+use Rattle.stepfiles.specs.Coding.{marks_in, table_of}
 use Rattle.stepfiles.proofs.Codes.{number_at, number-join, number_full}
 use Rattle.stepfiles.proofs.targets.ClosedTable.gather.Goals as goal
 

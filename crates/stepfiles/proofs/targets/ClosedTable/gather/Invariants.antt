@@ -1,7 +1,6 @@
 use Rattle.std.proofs.Common.{◌≡◌}
 use Rattle.languages.specs.Marks.{number, gathered}
-use Rattle.stepfiles.specs.Coding.{marks_in}
-use Rattle.stepfiles.specs.Closed.{table_of}
+use Rattle.stepfiles.specs.Coding.{marks_in, table_of}
 use Rattle.stepfiles.proofs.targets.ClosedTable.gather.Given as goal
 
 -- the classes so far are gathered

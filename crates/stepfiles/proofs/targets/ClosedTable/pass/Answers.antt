@@ -2,8 +2,7 @@ use Rattle.std.proofs.Common.{◌≡◌, sym, refl, ap, ◌∙◌, arith}
 use Rattle.std.proofs.lemmas.Bool.{true≢false}
 use Rattle.languages.specs.Marks.{passed_below}
 use Rattle.languages.proofs.Passing.{passed_below_none}
-use Rattle.stepfiles.specs.Coding.{marks_in}
-use Rattle.stepfiles.specs.Closed.{table_of}
+use Rattle.stepfiles.specs.Coding.{marks_in, table_of}
 use Rattle.stepfiles.proofs.Passes.{row_passed, row_marked, row_same}
 use Rattle.stepfiles.proofs.targets.ClosedTable.pass.Goals as goal
 

@@ -1,7 +1,6 @@
 use Rattle.std.proofs.Common.{◌≡◌, false}
 use Rattle.languages.specs.Marks.{passed_below}
-use Rattle.stepfiles.specs.Coding.{marks_in, MarksOf}
-use Rattle.stepfiles.specs.Closed.{table_of}
+use Rattle.stepfiles.specs.Coding.{marks_in, MarksOf, table_of}
 use Rattle.stepfiles.proofs.targets.ClosedTable.pass.Given as goal
 
 -- what is left of the pass gives what the whole pass gives, and without a change nothing was written

@@ -2,8 +2,7 @@ use Rattle.std.proofs.Common.{◌≡◌, ◌+◌, ◌-◌, map, sym, ap, ◌∙�
 use Rattle.std.proofs.lemmas.List.{length-map}
 use Rattle.languages.specs.Marks.{number, passes, worked, begun}
 use Rattle.languages.proofs.Passing.{length-begun, passes_none, passes_more, passes_still}
-use Rattle.stepfiles.specs.Coding.{marks_in}
-use Rattle.stepfiles.specs.Closed.{table_of}
+use Rattle.stepfiles.specs.Coding.{marks_in, table_of}
 use Rattle.stepfiles.specs.Opening.{worked_in}
 use Rattle.stepfiles.proofs.Codes.{coded_numbers, marks_in_numbers}
 use Rattle.stepfiles.proofs.targets.ClosedTable.work_out.Goals as goal

@@ -1,7 +1,6 @@
 use Rattle.std.proofs.Common.{◌≡◌, ◌-◌}
 use Rattle.languages.specs.Marks.{passes, worked}
-use Rattle.stepfiles.specs.Coding.{marks_in, MarksOf}
-use Rattle.stepfiles.specs.Closed.{table_of}
+use Rattle.stepfiles.specs.Coding.{marks_in, MarksOf, table_of}
 use Rattle.stepfiles.proofs.targets.ClosedTable.work_out.Given as goal
 
 -- the passes that are left give the marks worked out
