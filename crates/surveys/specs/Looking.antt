@@ -6,7 +6,7 @@
 --   LiesAt text at r   what is told lies there
 --   Stands text l      l is a lexeme of the text
 -- Assumes nothing.
-use Rattle.std.specs.Prelude.{◌≡◌, ℕ, ◌<◌, ◌≤◌, List, length, Some, None, Ok, Err, Option, Result}
+use Rattle.std.specs.Prelude.{◌≡◌, ℕ, ◌<◌, ◌≤◌, List, length, Some, None, Ok, Err, Option, Result, IfOk}
 use Rattle.refusals.specs.declared.Refusal.{Refusal}
 use Rattle.grammar.specs.declared.token.Lexeme.{Lexeme}
 use Rattle.grammar.specs.Atoms.{within}
@@ -36,5 +36,4 @@ abbrev pub Lies : List ℕ → ℕ → Lexeme → Type 0
 Lies text at l = Stands text l × (at ≤ length text → at ≤ l.place)
 
 abbrev pub LiesAt : List ℕ → ℕ → Result Lexeme Refusal → Type 0
-LiesAt text at (Ok l) = Lies text at l
-LiesAt text at (Err r) = Unit {0}
+LiesAt text at r = IfOk r (Lies text at)

@@ -3,10 +3,10 @@
 --   sentences q p      what is wrong where the question q is answered with no at the place p, and what was expected
 --   line r             the whole line: the number and the place, the layer, and both sentences
 --   prints b           the byte b prints: it is a blank, a tilde, or between them
---   all_print s        each byte of s prints
 --   Sentence s         s is something to read on one line: it is not empty, and all of it prints
 -- Assumes nothing.
-use Rattle.std.specs.Prelude.{◌≡◌, ℕ, ◌<◌, Bool, true, cond, ◌&&◌, ◌==◌, List, [], ◌∷◌, ◌++◌, length, codes, nat_le}
+use Rattle.std.specs.Prelude.{◌≡◌, ℕ, ◌<◌, Bool, true, cond, ◌&&◌, ◌==◌, List, ◌++◌, length, codes, nat_le}
+use Rattle.std.specs.List.{list_all}
 use Rattle.refusals.specs.Questions.{layered, worded, shown}
 use Rattle.refusals.specs.declared.Question.{Question}
 use Rattle.refusals.specs.declared.Question.TheVariants.{TextLength, ReadingRoom, TokenStart, BracketClosed, GrammarAllows, LevelsOpen, AtomCount, NodeRoom, EventRange, AtomEntry, AtomForm, AtomOrder, ClassCount, StationOrder, PoolSound, BuildRoom, RowRoom, FileLength, FileVersion, FileFields, TableLength, ScratchRoom, TargetInTable, MarkWorkedOut, RunAlphabet, ClassInFile, RunLength}
@@ -78,9 +78,5 @@ line r =
 abbrev pub prints : ℕ → Bool
 prints b = nat_le 32 b && nat_le b 126
 
-abbrev pub all_print : List ℕ → Bool
-all_print [] = true
-all_print (b ∷ bs) = prints b && all_print bs
-
 abbrev pub Sentence : List ℕ → Type 0
-Sentence s = (0 < length s) × (all_print s ≡ true)
+Sentence s = (0 < length s) × (list_all prints s ≡ true)
