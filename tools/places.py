@@ -23,7 +23,7 @@ POINTS = [
     ("3  Loops", [
         ("3a while", r"^ +while .*", None),
         ("3b for over a range of numbers", r"for [a-z_]+ in \(?[a-z0-9_.]+\.\..*", None),
-        ("3c a count or a place moved on by hand", r"^ +[a-z_]+ [-+]= 1;|^ +([a-z_]+) = [a-z_]+\.saturating_add\(1\);", None),
+        ("3c a count or a place moved on by hand", r"^ +\*?[a-z_]+ [-+]= 1;|^ +\*?([a-z_]+) = \*?[a-z_]+\.saturating_add\(1\);", None),
     ]),
     ("4  Equality, order, copying, conversion, printing", [
         ("4a equality by hand", r"^ *fn same\(.*", None),
@@ -36,10 +36,10 @@ POINTS = [
         ("5a the caller's memory is kept", r"ensures (lent )?\{ .*ghost_name.*", None),
         ("5b bytes and layout", r"bytes: &\[u8\], layout: Layout", None),
         ("5c Laid", r"requires (laid )?\{ Laid ", None),
-        ("5d Closed, Coded, or marks as many as the rows", r"requires [a-z]+ \{ (Closed|Coded|length marks)", None),
-        ("5e the lexeme stands in the text", r"requires (stands )?\{ Stands reader", None),
+        ("5d Closed, Coded, or marks as many as the rows", r"requires ([a-z]+ )?\{ (Closed|Coded|MarksOf|length marks)", None),
+        ("5e the lexeme stands in the text", r"requires (stands )?\{ Stands (self\.)?reader", None),
         ("5f a pool and a join", r"pool: &(mut )?Pool,\s+join: Join", None),
-        ("5g nodes and the number of one of them", r"nodes: &\[Node\], number: usize", None),
+        ("5g nodes and the number of one of them", r"nodes: &\[Node\], number: usize|number: usize, nodes: &\[Node\]", None),
     ]),
     ("6  Buffers", [
         ("6a a buffer in a struct with its length beside", r"(items|entries|nodes): [^\n]*\n +(pub )?count: usize,|count: usize,\n +pub nodes: Vec", None),

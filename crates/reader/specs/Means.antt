@@ -32,8 +32,7 @@ pub record Fits (text : List ℕ) (items : List Node) (es : List Entry) : Type 0
   pub places : 32 ≤ length es
 
 abbrev pub Untold : Result Reading Refusal → Type 0
-Untold (Ok r) = Unit {0}
-Untold (Err f) = f.question ≡ NodeRoom
+Untold a = IfErr a (λ f. f.question ≡ NodeRoom)
 
 pub record Stands (text : List ℕ) (items : List Node) (r : Reading) : Type 0 where
   pub rule : Rule
@@ -49,8 +48,7 @@ Given text (Ok r) items = Stands text items r
 Given text (Err f) items = f.question ≡ NodeRoom → Sound (take f.place items)
 
 abbrev pub Left : Result Reading Refusal → Type 0 → Type 0
-Left (Ok r) same = Unit {0}
-Left (Err f) same = (f.question ≡ NodeRoom) ⊎ same
+Left a same = IfErr a (λ f. (f.question ≡ NodeRoom) ⊎ same)
 
 -- The refusal of a token by the grammar comes at the first that nothing of the grammar can begin with.
 abbrev pub Wrong : List ℕ → Result Reading Refusal → Type 0

@@ -5,6 +5,7 @@ ghost use Rattle.refusals.specs.declared.Question.TheVariants.{TextLength, Brack
 ghost use Rattle.reader.specs.Worked.{answer, WorkedTexts};
 
 /// What reading these texts answers. It does nothing: it is there for its contract.
+#[tactic(auto, using(crate::proofs::Working::all_worked))]
 pub fn worked_texts()
     ensures no_text { answer "" 10 ≡ Err (refusing TextLength 0) }
     ensures open_bracket { answer "[61" 10 ≡ Err (refusing BracketClosed 0) }
@@ -12,11 +13,4 @@ pub fn worked_texts()
     ensures nothing_inside { answer "()" 10 ≡ Err (refusing GrammarAllows 1) }
     ensures just_fits { answer "[61][62]|[61][63]" 10 ≡ Ok (record { root = 9; nodes = 10; atoms = 3 }) }
     ensures one_too_few { answer "[61][62]|[61][63]" 9 ≡ Err (refusing NodeRoom 9) }
-{
-    worked();
-}
-
-/// The table as proofs/ has it.
-fn worked()
-    ensures { WorkedTexts }
 {}

@@ -8,7 +8,7 @@
 --   MarkThere b r o      o, a view's answer about row r, is its mark if there is such a row
 --   TargetThere b r c o  o, a view's answer about row r and class c, is a row if there are such a row and such a class
 -- Assumes nothing.
-use Rattle.std.specs.Prelude.{◌≡◌, ℕ, ◌+◌, ◌*◌, ◌<◌, ◌≤◌, List, length, is_ok, Some, Ok, Err, Decides, Option, Result, MatchResult, slice_index}
+use Rattle.std.specs.Prelude.{◌≡◌, ℕ, ◌+◌, ◌*◌, ◌<◌, ◌≤◌, List, length, is_ok, Some, Decides, Option, Result, IfErr, MatchResult, slice_index}
 use Rattle.languages.specs.declared.marks.Mark.{Mark}
 use Rattle.languages.specs.Tables.{Closed}
 use Rattle.languages.specs.Marks.{number, Stands}
@@ -40,8 +40,7 @@ MarksStand b xs = (r : ℕ) → r < rows_in b → IsMarkOf b r (slice_index xs r
 
 -- it succeeded, or a mark was not the one worked out
 abbrev pub CameToMarks : Result (Unit {0}) Refusal → Type 0
-CameToMarks (Ok _) = Unit {0}
-CameToMarks (Err f) = f.question ≡ MarkWorkedOut
+CameToMarks r = IfErr r (λ f. f.question ≡ MarkWorkedOut)
 
 -- s is the scratch before and s' after; the place viewed v before and v' after
 pub record Means (b s v : List ℕ) (r : Result (Unit {0}) Refusal) (v' s' : List ℕ) : Type 0 where
