@@ -3,11 +3,11 @@
 --   met known s           the known texts with s; met_in known t: with the text of t, if t is a bracket
 --   atoms_from known ts   the known texts with those of the brackets of ts
 --   atoms ts              the different bracket texts of ts, in the order first met
---   number_of known s     the number of s among the known texts; any number where it is none of them
+--   number_of known s     the number of s among the known texts; how many they are where it is none of them
 --   horizon_from known e ts, horizon e ts   the place of the first bracket that would be the 33rd atom, or else e
 --   beyond h t p          t is a bracket, and its place p is h
 --   within h ts           ts, with a bracket at the place h refused: it would be one atom too many
---   counted h x           the same for one token: x, unless it tells a bracket at the place h
+--   counted h x           the same for one token: x, unless it tells a bracket at the place h. counted_by is its step
 --   horizon_in text       the place of the first bracket of a text that would be its 33rd atom, or else its length
 --   tokens_from text at   the tokens of a text from the place at on, the atoms counted from its beginning
 --   tokens text           the tokens of a text, the atoms counted

@@ -6,7 +6,8 @@
 --   closing_at text at  the first place from at on where a `]` stands; the text's length if there is none
 --   lexed_at text at    the first token from the place at on, or why none can be told. begun, piece_at, bare_at and
 --                       bracket_to are its steps: at a place, by the byte there, for a sign, for a bracket up to its `]`
---   onward f x          the tokens that begin with what x tells, where f tells those from a place on
+--   onward f x          the tokens that begin with what x tells, where f tells those from a place on. onward_by is its
+--                       step, for a token, or none, its place and the place behind it
 --   lex_from k text at  the tokens from the place at on, at most k of them
 --   lexed_from text at  the tokens from the place at on
 --   lexed text          the tokens of a text

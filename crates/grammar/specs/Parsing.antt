@@ -8,8 +8,9 @@
 --   joins X ts        the first token of ts goes on a form of the level X
 --   read k names n X ts    read a form of the level X where n levels are left; k is above the depth of calls
 --   more k names n X r ts  go on from r, a form of the level X, as far as it goes
---   read_by, more_by  one step of each, given how to take the steps below it. grown_by, not_by, closed and base_by are their
---                     parts: with an operand more, at a `!`, at the `)` of a rule in parentheses, by the first token
+--   read_by, more_by  one step of each, given how to take the steps below it: Reads and Grows. grown_by, not_by,
+--                     bases_by, base_by, closed and closed_by are their parts: with an operand or a star more, at a
+--                     `!`, at a base and by its first token, and at the `)` of a rule in parentheses
 --   whole, wholly     the rule, if nothing is left behind it
 --   parsed k names ts, parsed_text text  the rule of some tokens, and of a text
 -- Assumes nothing.

@@ -1,4 +1,6 @@
 -- What is proved of the grammar. Reading a text in order and the grammar, which knows no order, say one thing of it.
+--   ReadIsWritten, WrittenIsRead   a rule that is read is written, and one that is written is read
+--   OneTree                        a text writes one rule at most
 -- Assumes nothing.
 use Rattle.std.specs.Prelude.{◌≡◌, ℕ, List, Ok}
 use Rattle.languages.specs.Rules.{Rule}

@@ -1,5 +1,6 @@
 -- Marks: what each says by what a row reaches, and how they are worked out by passes over the table.
---   number m         the number of a mark: bit 0 the row accepts, bit 1 it reaches a row that accepts, bit 2 one that doesn't
+--   number m         the number of a mark: bit 0 the row accepts, bit 1 it reaches a row that accepts, bit 2 one that
+--                    doesn't
 --   NamesMark n r    r is the mark whose number is n, or the error that no mark has the number n
 --   unknown_mark e   what that error says
 --   Stands t r m     m is the mark that reachability gives row r
@@ -8,6 +9,7 @@
 --   gathered t ms r k  the mark of row r in ms, joined with those of its targets by the classes below k
 --   passed_below t k ms  ms after the rows below k gathered, the last of them first
 --   passes t n ms    ms after n passes over all rows
+--   begun t          the first marks, one for each row
 --   worked t         the marks worked out: as many passes as rows, from the first marks
 -- Assumes nothing.
 use Rattle.std.specs.Prelude.{◌≡◌, ℕ, zero, suc, Bool, true, false, List, ◌++◌, codes, decimal, map, Result, MatchResult, slice_index_or, slice_set}

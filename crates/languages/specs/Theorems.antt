@@ -1,4 +1,6 @@
 -- What is proved of tables and marks.
+--   WorkedOut t             the marks worked out for t are those that reachability gives; more passes change none
+--   MarksSayWhatIsReached   that is so of every table whose targets are all rows
 -- Assumes nothing.
 use Rattle.std.specs.Prelude.{◌≡◌, ℕ, ◌<◌, ◌≤◌, length, slice_index_or}
 use Rattle.languages.specs.declared.marks.Mark.{Mark}

@@ -1,4 +1,5 @@
 -- The derivative of a node by an answer set: what is answered, and the pool afterwards.
+--   or_right rec e r q h      q, and by an or the derivative of the right part r, if the left part's flag e is set
 --   derived_by rec s n p f h  one step, for the node n that the nodes p read as f; rec derives a smaller node
 --   derived k s n h           the derivative, going down at most k nodes
 --   derivation s n h          the derivative of node n: no part of it is deeper than its number

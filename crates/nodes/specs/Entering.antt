@@ -1,15 +1,21 @@
 -- Entering a form into a pool: what is answered, and the pool afterwards.
 --   Held            a pool: the nodes used, the places left behind them, what stands past the largest pool, the count
 --   held items n    the pool that a slice of records with the count n is
---   Out, bind       an answer with the pool afterwards; bind goes on with a number answered, and hands a refusal up
+--   Out, bind       an answer with the pool afterwards; bind goes on with what is answered, and hands a refusal up.
+--                   bind_by is its step
 --   recorded p f    the record of the form f over the nodes p
---   interned h x    the first node equal to x, else x in the next place, else the refusal
+--   interned h x    the first node equal to x, else x in the next place, else the refusal. interned_by and appended are
+--                   its steps
 --   kept f h        the record of f, interned with no rule asked
+--   joined j l r    the form over l and r of the kind that j joins: an or, or an and
+--   joints j f      the parts of the form f, if it is of that kind
 --   members j p k n the members of node n: an or node's are its left, then its right's members; any other node is its
---                   own one member. And nodes alike. k bounds the depth
---   merge xs ys     the smaller first member first, equal ones once
+--                   own one member. And nodes alike. k bounds the depth. members_by is its step
+--   merge xs ys     the smaller first member first, equal ones once. weave is its step
 --   chained j xs h  the node whose members are xs, entered from the last member on
---   merged j l r h  the members of l and r, merged
+--   merged j l r h  the node whose members are those of l and r, merged
+--   is_star f       the form f is a star
+--   negated n f h   entering not of node n, which is read as the form f
 --   entered f h     entering the form f with all its rules
 -- Assumes nothing.
 use Rattle.std.specs.Prelude.{ℕ, zero, suc, ◌+◌, Bool, true, false, cond, not, ◌&&◌, ◌||◌, List, [], ◌∷◌, ◌++◌, length, take, drop, Some, None, Ok, Err, Option, Result, ◌==◌, nat_lt}

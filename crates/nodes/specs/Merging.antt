@@ -1,5 +1,6 @@
 -- Merging, a member at a time. A list of members goes by the node whose members it is, or by no node if it is empty.
 --   members_of j p o    the members that o goes for
+--   Split               a first member, and what goes for the others
 --   split_by n o        the first member of node n and what goes for the others, where o are its parts as a joint
 --   split_of j p n      the same, read from the nodes p
 --   first_of l s r t    the next member of the merged list and what is left, where s and t are the splits of l and r

@@ -4,6 +4,7 @@
 --   node_from      records that agree in every field are one
 --   same_exact     same_node says yes exactly for one and the same record
 --   derived_eq     what the derived `==` of records says
+--   kind_tag       what it tells a kind by is the number of the kind
 --   derived_same, derived_exact   it is same_node, and so is as exact
 -- Assumes nothing.
 use denote.Enum.Declared.{tag_of}

@@ -1,7 +1,8 @@
 -- Which pools are sound, and the first node that is not. The records are looked at as they stand.
 --   flag_at p n      the flag of the record n
 --   sound_by p n k l r e   a later node n with the kind k, the fields l and r and the flag e is sound
---   proper p n       node n is there and sound: the one of the nodes 0 to 3, or a sound later one
+--   sound_as p n x   the record x is sound as node n: it is the one of the nodes 0 to 3, or a sound later one
+--   proper p n       node n is there and sound
 --   asked p          how many nodes are asked about: those there are, and at least the nodes 0 to 3
 --   first_unsound p  the first of these that is not proper
 --   Below n f        f is a form of a later node n: its parts are smaller than n, its atom is below 32

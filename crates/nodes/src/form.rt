@@ -4,7 +4,7 @@ ghost use Rattle.nodes.specs.Reading.{part, form_by};
 
 use crate::node::{NONE, Node, NodeKind};
 
-/// A kind with its parts, each the number of a node.
+/// A kind with its parts, each the number of a node, or with the number of its atom.
 #[derive(Clone, Copy)]
 pub enum Form {
     None,

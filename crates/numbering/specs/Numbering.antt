@@ -1,8 +1,9 @@
 -- A book in which things are numbered in the order in which they are first met.
 --   Pages           what a book holds: the things in use, what stands past them, and the count that it shows
 --   pages items n   the pages of a book over items that shows the count n; one that shows too many is full
---   numbered eq pg x   the number of x and the pages afterwards: a thing in use keeps its number, a new one gets the next
---                   number if there is a place for it. placed and unless_found are its steps
+--   Out             a number, or none, and the pages afterwards
+--   numbered eq pg x   the number of x and the pages afterwards: a thing in use keeps its number, a new one gets the
+--                   next number if there is a place for it. placed and unless_found are its steps
 --   Means eq x p o q   what the answer o says, where p were the pages before numbering x and q are those after
 -- Assumes nothing.
 use Rattle.std.specs.Prelude.{◌≡◌, ℕ, ◌+◌, Bool, ◌⊎◌, List, [], ◌∷◌, ◌++◌, length, take, drop, Some, None, Option, MatchOption}

@@ -4,6 +4,7 @@ ghost use Rattle.std.specs.Cmp.{unsigned_Decides};
 
 /// What can be numbered: `==` says yes exactly for one and the same thing.
 pub trait Same: Copy + Eq {
+    /// What `==` says; a kind of things may find it in a quicker way.
     fn same(self, other: Self) -> bool
         ensures { result ≡ Self.eq self other }
     {

@@ -2,6 +2,7 @@
 --   rank X              how deep a form of the level X may call before a token is taken
 --   size s l X          a bound of the depth of calls of reading a form of the level X from the lexeme l on
 --   size_on s l         the same for going on where l comes next
+--   Behind s p r        the lexeme behind the part that r gives is one of the text, at the place p or later
 --   Goes step s n X l h r g    reading a form of the level X from l on, with n levels left, answers r and turns the pool h
 --                       into g, where a form is entered by step; it takes a token at least
 --   Grown step s n X x h r g   the same for going on from the part x

@@ -8,14 +8,20 @@
 --   tighter b        the level of its operands
 --   joining b l m    the form over two nodes
 --   joins_with b t   the token t, if there is one, says that another operand follows
---   onset b s l      the tokens from the next operand on, where l is the lexeme behind the last
+--   onset_of b ts    the tokens from the next operand on, where ts are those behind the last
+--   onset b s l      the same where l is the lexeme behind the last
 --   leaf_in names t  the form that the token t alone is, if it is one
 --   opened n p       how many of n levels are left behind a token at the place p that opens one
 --   inside n ts h f  open one level more, if one of n is left, at the first token of ts
 --   read_into k step names n X ts h     read a form of the level X into the pool h, as the grammar's read does
 --   grow_into k step names n X l ts h   go on from the node l, as the grammar's more does
+--   read_by, grow_by    one step of each, given how to take the steps below it: Reads and Grows. growing, starring,
+--                    negating, basing, leafed and shut are their parts: with an operand more, with a star more, at a
+--                    `!`, at a base, at one that is a token alone, and at the `)` of one in parentheses
 --   names_of s       how a reader numbers a bracket
 --   answered s r     what reading answers, in these words
+--   LiesFrom text p r   the lexeme that r gives is one of the text, at the place p or later
+--   ended a          the node answered, if nothing is left behind its text. ended_of and ended_by are its steps
 --   passed_into step s h                a pass over the whole text
 --   settled r        whether it came to its end
 -- Assumes nothing.

@@ -1,5 +1,5 @@
 -- Lexemes of a text.
---   stands_prop text l    that l is one of the text has one proof at most
+--   stands_prop text l    that l is one of the text has one proof at most. stands_by_prop is its step
 -- Assumes nothing.
 use Rattle.std.specs.Prelude.{ℕ, List, Some, None, Option}
 use Rattle.std.proofs.Props.{props}

@@ -50,7 +50,7 @@ Given text (Err f) items = f.question ≡ NodeRoom → Sound (take f.place items
 abbrev pub Left : Result Reading Refusal → Type 0 → Type 0
 Left a same = IfErr a (λ f. (f.question ≡ NodeRoom) ⊎ same)
 
--- The refusal of a token by the grammar comes at the first that nothing of the grammar can begin with.
+-- The refusal of a token by the grammar comes at the first that nothing of the grammar goes on with.
 abbrev pub Wrong : List ℕ → Result Reading Refusal → Type 0
 Wrong text a = IfErr a (λ f. f.question ≡ GrammarAllows → FirstWrong (number_of (atoms (lexed text))) f.place (tokens text))
 
@@ -59,7 +59,7 @@ pub record ReadingMeans (text : List ℕ) (items : List Node) (es : List Entry) 
   pub accepts : Fits text items es → Untold o.0 ↔ ((r : Rule) × Written text r)
   -- A reading stands for that rule; a full pool is sound.
   pub given : Given text o.0 o.1
-  -- The token that the grammar refuses is the first that no rule's tokens can begin with; the end, if no rule ends there.
+  -- The token that the grammar refuses is the first that no rule's tokens go on with; the end, if no rule ends there.
   pub wrong : Wrong text o.0
   -- Any refusal but that of a full pool leaves the pool and the atom list as they were.
   pub left : Left o.0 ((o.1 ≡ items) × (o.2 ≡ es))

@@ -5,8 +5,8 @@
 --   first_held items      the pool that reading begins with: the first four nodes afresh
 --   slice h               a pool's records, as a slice has them
 --   filled new es         places for atoms with the entries new
---   read_text text items es   reading a text into a slice of records and places for atoms. after_asking, after_parsing and
---                         after_entering are its steps, each given what the step before found
+--   read_text text items es   reading a text into a slice of records and places for atoms. after_asking, after_parsing,
+--                         after_entering and rooted are its steps, each given what the step before found
 -- Assumes nothing.
 use Rattle.std.specs.Prelude.{ℕ, Bool, ◌&&◌, List, [], ◌∷◌, ◌++◌, length, drop, Some, None, Ok, Err, Option, Result, nat_le}
 use Rattle.languages.specs.Rules.{Rule}

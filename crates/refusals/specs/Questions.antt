@@ -1,4 +1,5 @@
 -- The questions, each with its number and its layer: the one definition of both. And how they are printed.
+--   listed q        the number and the layer of q
 --   numbered q      the number that a technician sees
 --   layered q       the part of the work that asks q
 --   refusing q p    a no to q at the place p

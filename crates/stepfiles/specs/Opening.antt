@@ -4,9 +4,9 @@
 --   bad_target b     the place of the first target that is no row: bad_target_of one row and class, bad_target_in one row
 --   bad_mark b ms    the place of the first mark that is not the one in ms: bad_mark_of one row
 --   worked_in b      the numbers of the marks worked out from bit 0 of all marks
---   opened b s v     open's answer, what its place views afterwards, and its scratch afterwards; s is the scratch
---                    before, and v what the place viewed before. after_header, after_targets and after_marks are its
---                    steps, each given what the step found
+--   Out              open's answer, what its place views afterwards, and its scratch afterwards
+--   opened b s v     what open of b comes to, where s is the scratch before, and v what the place viewed before.
+--                    after_header, after_targets and after_marks are its steps, each given what the step found
 --   step_file b      open of b is refused for no reason but a short scratch
 -- Assumes nothing.
 use Rattle.std.specs.Option.{option_or}

@@ -1,7 +1,7 @@
 -- What a view of a step file shows.
 --   viewed f         the bytes that f views
 --   mark_in b r      the mark of row r, if there is such a row
---   successor b r c the target of row r by class c, if there are such a row and such a class
+--   successor b r c   the target of row r by class c, if there are such a row and such a class
 --   built_in         the file of the rule `0`: one row, one class, lost
 -- Assumes nothing.
 use Rattle.std.specs.Prelude.{ℕ, cond, ◌&&◌, List, [], ◌∷◌, Some, None, Option, nat_lt}

@@ -4,11 +4,13 @@
 --   numbered text es s  the number of the first of the entries es that speaks of s, if there is one
 --   entry_at p s        the entry of a bracket at the place p with the bytes s inside
 --   entries_in known t p    the entry of the token t at the place p, if it is a bracket that is none of the known texts
---   entries_from known ts   the entries of the brackets of ts that are none of the known texts, each where it is first met
+--   entries_from known ts   the entries of the brackets of ts that are none of the known texts, each where it is first
+--                       met
 --   entries ts          the entry of each atom of ts, in the order of their numbers
 --   listed a            the entries of the atoms in use
---   Meeting             whether a bracket is an atom, and the entries afterwards
---   meeting text es p s    meeting a bracket at the place p with the bytes s, where es are known; 32 at the most
+--   Meeting             whether to go on, and the entries afterwards
+--   meeting text es p s    meeting a bracket at the place p with the bytes s, where es are known: no if it would be the
+--                       33rd atom
 --   taking text es p t     meeting the token t at the place p: only a bracket is an atom. No at the end too
 -- Assumes nothing.
 use Rattle.std.specs.Prelude.{ℕ, ◌+◌, Bool, true, false, cond, List, [], ◌∷◌, ◌++◌, map, length, take, drop, Some, None, Option, nat_lt, position}

@@ -4,7 +4,7 @@
 --   told s r           what looking for a token tells: the tokens that begin with it, or why none can be told
 --   Lies text at l     l is a lexeme of the text from the place at on: a token takes a byte at least
 --   LiesAt text at r   what is told lies there
---   Stands text l      l is a lexeme of the text
+--   Stands text l      l is a lexeme of the text. StandsBy is its step, for a token, or none, from place to place
 -- Assumes nothing.
 use Rattle.std.specs.Prelude.{◌≡◌, ℕ, ◌<◌, ◌≤◌, List, length, Some, None, Ok, Err, Option, Result, IfOk}
 use Rattle.refusals.specs.declared.Refusal.{Refusal}
