@@ -1,20 +1,15 @@
 -- Counting atoms refuses a bracket exactly where a text has more than 32 of them.
 --   Headed h t p ts spots e   spots begin with t at the place p, which is not refused, and those of ts follow up to e
 -- Assumes nothing.
-use Rattle.std.proofs.Common.{◌≡◌, ℕ, ◌<◌, ◌≤◌, Bool, true, false, cond, eqb, ltb, List, [], ◌∷◌, ◌++◌, length, Some, None, Ok, Err, Option, Result, refl, ap, ◌∙◌, arith}
+use Rattle.std.proofs.Common.{◌≡◌, ℕ, ◌<◌, ◌≤◌, Bool, true, false, cond, eqb, ltb, List, [], ◌∷◌, ◌++◌, length, refl, ap, ◌∙◌, arith}
 use Rattle.std.proofs.lemmas.List.{length_push}
 use Rattle.std.proofs.lemmas.Bool.{cond_both, cond-false, ltb-true, ltb-false, le-ltb, ne_eqb, eq-eqb, and_right, and_from, both_ways}
 use Rattle.refusals.specs.Questions.{refusing}
 use Rattle.refusals.specs.declared.Question.TheVariants.{AtomCount}
 use Rattle.refusals.specs.declared.Refusal.{Refusal}
 use Rattle.grammar.specs.Tokens.{Token, bar, ampersand, bang, asterisk, opening, closing, nought, one, dot, bracket, Spot, Lexed, end, bad, token, before, sign}
-use Rattle.grammar.specs.Lexing.{Piece, lexed_at, onward, onward_by, lexed_from}
-use Rattle.grammar.specs.Atoms.{among, met, met_in, atoms_from, horizon_from, horizon_in, beyond, within, counted, counted_by, tokens_from}
-use Rattle.grammar.proofs.Cutting.{Placed, lexed_from_step}
-
-at_cond : {A B : Type 0} (b : Bool) (f : A → B) (x y : A) → cond b (f x) (f y) ≡ f (cond b x y)
-at_cond true f x y = refl
-at_cond false f x y = refl
+use Rattle.grammar.specs.Atoms.{among, met, met_in, atoms_from, horizon_from, beyond, within}
+use Rattle.grammar.proofs.Cutting.{Placed}
 
 met_longer : (known : List (List ℕ)) (s : List ℕ) → length known ≤ length (met known s)
 met_longer known s = cond_both (among known s) known (known ++ (s ∷ [])) (λ x. length known ≤ length x) (λ e. omega arith) (λ e. omega (arith, length_push known s))
@@ -112,17 +107,3 @@ within_few known f (bad r) spots e few whole = few
 within_few known f (token t p ts) spots e few whole =
     let go = few_by known f t p ts spots e (ltb 32 (length (met_in known t))) few refl whole in
     within_few (met_in known t) f ts go.0 e go.1 go.2
-
--- Counting goes token by token, as cutting does.
-within-counted : (h : ℕ) (f : ℕ → Lexed) (t : Option Token) (p q : ℕ) → within h (onward_by f t p q) ≡ onward (λ to. within h (f to)) (counted_by h t p q)
-unfolding within
-within-counted h f None p q = refl
-within-counted h f (Some t) p q = at_cond (beyond h t p) (onward (λ to. within h (f to))) (Err (refusing AtomCount p)) (Ok (Some t, p, q))
-
-within-onward : (h : ℕ) (f : ℕ → Lexed) (x : Result Piece Refusal) → within h (onward f x) ≡ onward (λ to. within h (f to)) (counted h x)
-unfolding within
-within-onward h f (Ok x) = within-counted h f x.0 x.1 x.2
-within-onward h f (Err r) = refl
-
-pub tokens_from_step : (text : List ℕ) (at : ℕ) → tokens_from text at ≡ onward (tokens_from text) (counted (horizon_in text) (lexed_at text at))
-tokens_from_step text at = ap (within (horizon_in text)) (lexed_from_step text at) ∙ within-onward (horizon_in text) (lexed_from text) (lexed_at text at)

@@ -18,8 +18,8 @@ abbrev pub Begins : (List ℕ → ℕ) → List Token → Type 0
 Begins names us = (n : ℕ) × (vs : List Token) × (r : Rule) × Writes names n alternatives (us ++ vs) r
 
 pub data FirstWrong (names : List ℕ → ℕ) (p : ℕ) (ts : Lexed) : Type 0 where
-  at_token : (spots : List Spot) (t : Token) (rest : Lexed) → ts ≡ before spots (token t p rest) → Begins names (tokens_in spots) → (Begins names (tokens_in spots ++ (t ∷ [])) → ⊥) → FirstWrong names p ts
-  at_end : (spots : List Spot) → ts ≡ before spots (end p) → Begins names (tokens_in spots) → ((n : ℕ) (r : Rule) → Writes names n alternatives (tokens_in spots) r → ⊥) → FirstWrong names p ts
+  at_token : (spots : List Spot) (t : Token) (rest : Lexed) → ts ≡ before spots (token t p rest) → Begins names (tokens_in spots) → ¬ (Begins names (tokens_in spots ++ (t ∷ []))) → FirstWrong names p ts
+  at_end : (spots : List Spot) → ts ≡ before spots (end p) → Begins names (tokens_in spots) → ((n : ℕ) (r : Rule) → ¬ (Writes names n alternatives (tokens_in spots) r)) → FirstWrong names p ts
 
 abbrev pub FirstWrongIsTold : Type 0
 FirstWrongIsTold = (text : List ℕ) (p : ℕ) → parsed_text text ≡ Err (refusing GrammarAllows p) → FirstWrong (number_of (atoms (lexed text))) p (tokens text)

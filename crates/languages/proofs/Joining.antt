@@ -32,15 +32,3 @@ module _ (op : Rule → Rule → Rule) (joins : Joins op) where
   joins_again x b = same_trans (op x (op x b)) (op (op x x) b) (op x b)
       (same_sym (op (op x x) b) (op x (op x b)) (joins.grouped x x b))
       (joins.keeps (op x x) x b b (joins.twice x) (same_refl b))
-
-  -- Both lists begin with the same member.
-  pub joins_both : (x a b : Rule) → Same (op (op x a) (op x b)) (op x (op a b))
-  joins_both x a b = same_trans (op (op x a) (op x b)) (op x (op x (op a b))) (op x (op a b))
-      (same_trans (op (op x a) (op x b)) (op x (op a (op x b))) (op x (op x (op a b)))
-      (joins.grouped x a (op x b))
-      (joins.keeps x x (op a (op x b)) (op x (op a b)) (same_refl x) (joins_second a x b)))
-      (joins_again x (op a b))
-
-  -- The second list has just its last member, and that comes first in the first.
-  pub joins_last : (x a : Rule) → Same (op (op x a) x) (op x a)
-  joins_last x a = same_trans (op (op x a) x) (op x (op x a)) (op x a) (joins.turned (op x a) x) (joins_again x a)

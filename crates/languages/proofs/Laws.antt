@@ -1,14 +1,14 @@
--- Which rules have the same language: that it is kept by every way to build and derive rules, and the laws by which rules are made simpler.
+-- Which rules have the same language: that it is kept by every way to build rules, and the laws by which rules are made
+-- simpler.
 -- Assumes nothing.
-use Rattle.std.proofs.Common.{◌≡◌, ℕ, Bool, true, false, List, [], ◌∷◌, ◌++◌, map, Decides, sym, refl, ap, ◌∙◌, inl, inr, ⊎_elim, append-nil}
+use Rattle.std.proofs.Common.{ℕ, Bool, true, false, List, [], ◌++◌, map, Decides, sym, refl, ap, ◌∙◌, inl, inr, ⊎_elim, append-nil}
 use mathlib.Core.Logic.Iff
 use mathlib.Core.Logic.{⊎_swap}
-use Rattle.std.proofs.lemmas.Bool.Decides.{same_from_decides, Decides-like, not_from_Decides}
-use Rattle.languages.specs.Rules.{Rule, none, empty, sequence, or, and, star, not, Star, stop, Lang, nullable, derivative, after, Same}
+use Rattle.std.proofs.lemmas.Bool.Decides.{not_from_Decides}
+use Rattle.languages.specs.Rules.{Rule, none, empty, sequence, or, and, star, not, Star, stop, Lang, nullable, after, Same}
 use Rattle.languages.proofs.Parting.{joined-map, star_map, star_once, star_flat, star_empty_only}
-use Rattle.languages.proofs.Deriving.{either_iff, nullable_decides, derived_iff, after_decides}
+use Rattle.languages.proofs.Deriving.{either_iff, after_decides}
 pub use Rattle.languages.proofs.Joining.{same_refl, same_sym, same_trans}
-use Rattle.languages.proofs.Joining.{Joins, joins_second, joins_again, joins_both, joins_last}
 
 abbrev In : Rule → List ℕ → Type 0
 In r w = Lang (λ s. s) r w
@@ -35,13 +35,6 @@ same_star r q h w = (star_map (In r) (In q) (λ u. (h u).0) w, star_map (In q) (
 
 pub same_not : (r q : Rule) → Same r q → Same (not r) (not q)
 same_not r q h w = Iff.not (h w)
-
-pub same_derivative : (s : ℕ) (r q : Rule) → Same r q → Same (derivative s r) (derivative s q)
-same_derivative s r q h w = Iff.trans (derived_iff (λ x. x) s r w) (Iff.trans (h (s ∷ w)) (Iff.symm (derived_iff (λ x. x) s q w)))
-
-pub same_nullable : (r q : Rule) → Same r q → nullable r ≡ nullable q
-same_nullable r q h = same_from_decides (nullable r) (nullable q) (nullable_decides (λ x. x) r)
-    (Decides-like (nullable q) (h []).1 (h []).0 (nullable_decides (λ x. x) q))
 
 -- Sequence, star and not.
 
@@ -100,7 +93,7 @@ none_and r w = (λ h. h.0, λ h. absurd h)
 pub and_none : (r : Rule) → Same (and r none) none
 and_none r w = (λ h. h.1, λ h. absurd h)
 
--- Or, and how lists of its members are merged.
+-- Or takes its parts in any order and grouping, and one twice as once.
 
 pub or_twice : (r : Rule) → Same (or r r) r
 or_twice r w = (⊎_elim (λ h. h) (λ h. h), λ h. inl h)
@@ -114,21 +107,6 @@ or_grouped x a b w = (
   ⊎_elim (λ h. inl (inl h)) (⊎_elim (λ h. inl (inr h)) (λ h. inr h)),
 )
 
-or_joins : Joins or
-or_joins = record { keeps = same_or; twice = or_twice; turned = or_turned; grouped = or_grouped }
-
-pub or_second : (a y b : Rule) → Same (or a (or y b)) (or y (or a b))
-or_second = joins_second or or_joins
-
-pub or_both : (x a b : Rule) → Same (or (or x a) (or x b)) (or x (or a b))
-or_both = joins_both or or_joins
-
-pub or_again : (x b : Rule) → Same (or x (or x b)) (or x b)
-or_again = joins_again or or_joins
-
-pub or_last : (x a : Rule) → Same (or (or x a) x) (or x a)
-or_last = joins_last or or_joins
-
 -- And, alike.
 
 pub and_twice : (r : Rule) → Same (and r r) r
@@ -139,18 +117,3 @@ and_turned r q w = (λ h. (h.1, h.0), λ h. (h.1, h.0))
 
 pub and_grouped : (x a b : Rule) → Same (and (and x a) b) (and x (and a b))
 and_grouped x a b w = (λ h. (h.0.0, (h.0.1, h.1)), λ h. ((h.0, h.1.0), h.1.1))
-
-and_joins : Joins and
-and_joins = record { keeps = same_and; twice = and_twice; turned = and_turned; grouped = and_grouped }
-
-pub and_second : (a y b : Rule) → Same (and a (and y b)) (and y (and a b))
-and_second = joins_second and and_joins
-
-pub and_both : (x a b : Rule) → Same (and (and x a) (and x b)) (and x (and a b))
-and_both = joins_both and and_joins
-
-pub and_again : (x b : Rule) → Same (and x (and x b)) (and x b)
-and_again = joins_again and and_joins
-
-pub and_last : (x a : Rule) → Same (and (and x a) x) (and x a)
-and_last = joins_last and and_joins

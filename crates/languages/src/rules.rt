@@ -1,6 +1,10 @@
-//! What is proved of rules and their languages. No function here does anything: each is there for its contract.
+//! How many atoms a rule has, and what is proved of rules and their languages. No function here does anything: each is
+//! there for its contract.
 ghost use Rattle.std.specs.Prelude.{ℕ, ◌↔◌, List, [], ◌∷◌, Decides};
 ghost use Rattle.languages.specs.Rules.{Rule, Lang, nullable, derivative, Same};
+
+/// The most atoms of a rule: an answer set has a bit for each.
+pub const MOST_ATOMS: usize = 32;
 
 /// A rule is nullable exactly when the empty list is in its language.
 #[tactic(auto, using(crate::proofs::Deriving::nullable_decides))]

@@ -14,8 +14,8 @@ use Rattle.nodes.specs.Records.{none_node, same_node}
 use Rattle.nodes.specs.Entering.{Held, Out, bind_by, recorded, appended, interned_by, interned, kept}
 use Rattle.nodes.specs.Soundness.{Below, Sound}
 use Rattle.nodes.specs.Meaning.{meaning, means}
-use Rattle.nodes.specs.Promises.{Parts, Grown, Comes}
-use Rattle.nodes.proofs.Growing.{meaning-append, means-append, meaning_next}
+use Rattle.nodes.specs.Promises.{Grown, Comes}
+use Rattle.nodes.proofs.Growing.{meaning-append, meaning_next}
 use Rattle.nodes.specs.Sameness.{same_exact}
 use Rattle.nodes.proofs.Sounding.{raw, raw_recorded, parts_from_below, form_by-recorded, form_at_raw, meaning_form, sound_push}
 
@@ -33,9 +33,6 @@ grown_length p q g = let e = ap length g.1 ∙ length-append p g.0 in omega (ari
 
 pub grown_meaning : (p q : List Node) → Grown p q → (n : ℕ) → n < length p → meaning q n ≡ meaning p n
 grown_meaning p q g n h = ap (λ z. meaning z n) g.1 ∙ meaning-append p g.0 n h
-
-pub grown_means : (p q : List Node) → Grown p q → (f : Form) → Parts (length p) f → means q f ≡ means p f
-grown_means p q g f h = ap (λ z. means z f) g.1 ∙ means-append p g.0 f h
 
 -- An outcome from its three facts.
 comes_from : (h : Held) (r : Rule) (o : Out) → Sound o.1.used → Grown h.used o.1.used →

@@ -6,16 +6,13 @@ use Rattle.languages.specs.Rules.{Rule, none}
 use Rattle.nodes.specs.declared.node.Node.{Node}
 use Rattle.nodes.specs.declared.form.Form.{Form}
 use Rattle.nodes.specs.Records.{none_node}
-use Rattle.nodes.specs.Reading.{form_by, form_at, nullable_at}
+use Rattle.nodes.specs.Reading.{form_by, nullable_at}
 use Rattle.nodes.specs.Entering.{recorded}
 use Rattle.nodes.specs.Meaning.{rule_of, meanings, meaning, means}
 use Rattle.nodes.specs.Promises.{Parts}
 
 pub nullable_at-append : (p q : List Node) (n : ℕ) → n < length p → nullable_at (p ++ q) n ≡ nullable_at p n
 nullable_at-append p q n h = ap (λ x. (cond (eqb n 0) none_node x).nullable) (get_or_append_left p q none_node n h)
-
-pub form_at-append : (p q : List Node) (n : ℕ) → n < length p → form_at (p ++ q) n ≡ form_at p n
-form_at-append p q n h = ap (λ x. form_by (cond (eqb n 0) none_node x).kind n (cond (eqb n 0) none_node x).left (cond (eqb n 0) none_node x).right) (get_or_append_left p q none_node n h)
 
 pub recorded-append : (p q : List Node) (f : Form) → Parts (length p) f → recorded (p ++ q) f ≡ recorded p f
 recorded-append p q Form.None h = refl

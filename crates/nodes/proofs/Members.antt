@@ -6,10 +6,11 @@ use Rattle.nodes.specs.declared.node.Node.{Node}
 use Rattle.nodes.specs.declared.node.NodeKind.{NodeKind}
 use Rattle.nodes.specs.declared.node.NodeKind.TheVariants as Kind
 use Rattle.nodes.specs.declared.merging.Join.{Join}
+use Rattle.nodes.specs.declared.merging.Members.{Members}
 use Rattle.nodes.specs.declared.merging.Next.{Next}
 use Rattle.nodes.specs.Reading.{part, form_by, form_at, at}
 use Rattle.nodes.specs.Entering.{Held, Out, bind, kept, joined, joints, members, members_by, merge, chained}
-use Rattle.nodes.specs.Merging.{members_of, Split, split_of, first_of, picked_of, is_last, ahead}
+use Rattle.nodes.specs.Merging.{members_of, split_of, first_of, picked_of, is_last, ahead}
 
 none≢some : {X : Type 0} {x : X} → None ≡ Some x → ⊥
 none≢some e = let z : ◌≡◌ {A = ℕ} 0 1 = cc in omega arith
@@ -64,12 +65,12 @@ module _ (j : Join) (p : List Node) where
           let below = rest_below j p n lr e in
           rw e (ap (λ ms. lr.0 ∷ ms) (deep lr.1 (omega arith) (omega arith)))
 
-  split_members : (n : ℕ) → members_of j p (Some n) ≡ (split_of j p n).0 ∷ members_of j p (split_of j p n).1
+  split_members : (n : ℕ) → members_of j p (Some n) ≡ (split_of j p n).first ∷ members_of j p (split_of j p n).rest
   unfolding members
   split_members n = go (joints j (form_at p n)) refl
     where
       go : (o : Option (ℕ × ℕ)) → joints j (form_at p n) ≡ o →
-          members_by (members j p n) n (joints j (form_at p n)) ≡ (split_of j p n).0 ∷ members_of j p (split_of j p n).1
+          members_by (members j p n) n (joints j (form_at p n)) ≡ (split_of j p n).first ∷ members_of j p (split_of j p n).rest
       go None e = rw e
       go (Some lr) e =
           let below = rest_below j p n lr e in
@@ -82,27 +83,31 @@ module _ (j : Join) (p : List Node) where
   abbrev listed : Next → List ℕ
   listed n = n.member ∷ following n
 
-  first-listed : (l r : ℕ) (s t : Split) → members_of j p (Some l) ≡ s.0 ∷ members_of j p s.1 → members_of j p (Some r) ≡ t.0 ∷ members_of j p t.1 →
-      merge (s.0 ∷ members_of j p s.1) (t.0 ∷ members_of j p t.1) ≡ listed (first_of l s r t)
-  first-listed l r s t of-l of-r = go (ltb s.0 t.0) (eqb s.0 t.0) refl refl
-    where
-      go : (b c : Bool) → ltb s.0 t.0 ≡ b → eqb s.0 t.0 ≡ c → merge (s.0 ∷ members_of j p s.1) (t.0 ∷ members_of j p t.1) ≡ listed (first_of l s r t)
-      go true c e f = rw e (ap (λ zs. s.0 ∷ merge (members_of j p s.1) zs) (sym of-r))
-      go false true e f = rw (e, f)
-      go false false e f = rw (e, f) (ap (λ zs. t.0 ∷ merge zs (members_of j p t.1)) (sym of-l))
+  -- All members are the first and then the rest.
+  abbrev IsSplit : Members → Type 0
+  IsSplit m = members_of j p (Some m.all) ≡ m.first ∷ members_of j p m.rest
 
-  first_falls : (l r : ℕ) (s t : Split) → ahead s.1 ≤ l → ahead t.1 ≤ r → ahead (first_of l s r t).left + ahead (first_of l s r t).right < (l + 1) + (r + 1)
-  first_falls l r s t of-l of-r = go (ltb s.0 t.0) (eqb s.0 t.0) refl refl
+  first-listed : (l r : Members) → IsSplit l → IsSplit r → merge (l.first ∷ members_of j p l.rest) (r.first ∷ members_of j p r.rest) ≡ listed (first_of l r)
+  first-listed l r of-l of-r = go (ltb l.first r.first) (eqb l.first r.first) refl refl
     where
-      go : (b c : Bool) → ltb s.0 t.0 ≡ b → eqb s.0 t.0 ≡ c → ahead (first_of l s r t).left + ahead (first_of l s r t).right < (l + 1) + (r + 1)
+      go : (b c : Bool) → ltb l.first r.first ≡ b → eqb l.first r.first ≡ c →
+          merge (l.first ∷ members_of j p l.rest) (r.first ∷ members_of j p r.rest) ≡ listed (first_of l r)
+      go true c e f = rw e (ap (λ zs. l.first ∷ merge (members_of j p l.rest) zs) (sym of-r))
+      go false true e f = rw (e, f)
+      go false false e f = rw (e, f) (ap (λ zs. r.first ∷ merge zs (members_of j p r.rest)) (sym of-l))
+
+  first_falls : (l r : Members) → ahead l.rest ≤ l.all → ahead r.rest ≤ r.all → ahead (first_of l r).left + ahead (first_of l r).right < (l.all + 1) + (r.all + 1)
+  first_falls l r of-l of-r = go (ltb l.first r.first) (eqb l.first r.first) refl refl
+    where
+      go : (b c : Bool) → ltb l.first r.first ≡ b → eqb l.first r.first ≡ c → ahead (first_of l r).left + ahead (first_of l r).right < (l.all + 1) + (r.all + 1)
       go true c e f = rw e (omega arith)
       go false true e f = rw (e, f) (omega arith)
       go false false e f = rw (e, f) (omega arith)
 
-  split_falls : (n : ℕ) → ahead (split_of j p n).1 ≤ n
+  split_falls : (n : ℕ) → ahead (split_of j p n).rest ≤ n
   split_falls n = go (joints j (form_at p n)) refl
     where
-      go : (o : Option (ℕ × ℕ)) → joints j (form_at p n) ≡ o → ahead (split_of j p n).1 ≤ n
+      go : (o : Option (ℕ × ℕ)) → joints j (form_at p n) ≡ o → ahead (split_of j p n).rest ≤ n
       go None e = rw e (omega arith)
       go (Some lr) e = rw e (omega (arith, rest_below j p n lr e))
 
@@ -110,7 +115,7 @@ module _ (j : Join) (p : List Node) where
   picked_falls None None e = absurd (true≢false e)
   picked_falls (Some l) None e = omega (arith, split_falls l)
   picked_falls None (Some r) e = omega (arith, split_falls r)
-  picked_falls (Some l) (Some r) e = first_falls l r (split_of j p l) (split_of j p r) (split_falls l) (split_falls r)
+  picked_falls (Some l) (Some r) e = first_falls (split_of j p l) (split_of j p r) (split_falls l) (split_falls r)
 
   abbrev pub both : Option ℕ → Option ℕ → List ℕ
   both l r = merge (members_of j p l) (members_of j p r)
@@ -118,7 +123,7 @@ module _ (j : Join) (p : List Node) where
   -- What is not empty begins with what is picked.
   left_listed : (l : ℕ) (r : Option ℕ) → both (Some l) r ≡ listed (picked_of j p (Some l) r)
   left_listed l None = rw (split_members l)
-  left_listed l (Some r) = rw (split_members l, split_members r) (first-listed l r (split_of j p l) (split_of j p r) (split_members l) (split_members r))
+  left_listed l (Some r) = rw (split_members l, split_members r) (first-listed (split_of j p l) (split_of j p r) (split_members l) (split_members r))
 
   right_listed : (l : Option ℕ) (r : ℕ) → both l (Some r) ≡ listed (picked_of j p l (Some r))
   right_listed None r = split_members r

@@ -16,7 +16,7 @@ use Rattle.nodes.specs.Reading.{form_at}
 use Rattle.nodes.specs.Entering.{Held, kept, joined, joints, members_by, members, weave, merge, chained, merged}
 use Rattle.nodes.specs.Soundness.{Below, Sound}
 use Rattle.nodes.specs.Meaning.{meaning, means}
-use Rattle.nodes.specs.Promises.{Parts, Grown, Comes}
+use Rattle.nodes.specs.Promises.{Parts, Comes}
 use Rattle.nodes.proofs.Sounding.{form_at_lem, meaning_form}
 use Rattle.nodes.proofs.Coming.{same_path, grown_length, grown_meaning, comes_here, comes_same, comes_bind, comes_kept}
 
@@ -170,10 +170,6 @@ module _ (j : Join) (p : List Node) where
   all_merge (x ∷ xs) ys = same_trans _ (J (meaning p x) (J (all j p xs) (all j p ys))) _
       (all_weave x (all j p xs) (merge xs) (all_merge xs) ys)
       (same_sym _ _ ((joins j).grouped (meaning p x) (all j p xs) (all j p ys)))
-
-all_grown : (j : Join) (p q : List Node) → Grown p q → (xs : List ℕ) → AllByRecursion (λ m. m < length p) xs → all j q xs ≡ all j p xs
-all_grown j p q g [] a = refl
-all_grown j p q g (x ∷ xs) a = rw (grown_meaning p q g x a.0, all_grown j p q g xs a.1)
 
 comes_chained : (j : Join) (x : ℕ) (xs : List ℕ) (h : Held) → Sound h.used → AllByRecursion (λ m. m < length h.used) (x ∷ xs) →
     Comes h (all j h.used (x ∷ xs)) (chained j (x ∷ xs) h)

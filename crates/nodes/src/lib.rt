@@ -13,4 +13,4 @@ pub use entering::enter;
 pub use form::Form;
 pub use node::{ALL, ANY, EMPTY, FIRST_NODES, NONE, Node, NodeKind, UnknownKind};
 pub use pool::{MOST_NODES, Pool, form_at, nullable_at};
-pub use sound::{MOST_ATOMS, first_unsound};
+pub use sound::first_unsound;

@@ -17,7 +17,15 @@ pub(crate) enum Join {
     And,
 }
 
-/// The next of the merged members, and what is left of the members of either side: the node whose members they are.
+/// The members of a node: all of them, the first, and the rest. Members go by the node whose members they are.
+#[derive(Clone, Copy)]
+pub(crate) struct Members {
+    pub all: u16,
+    pub first: u16,
+    pub rest: Option<u16>,
+}
+
+/// The next of the merged members, and what is left of those of either side.
 #[derive(Clone, Copy)]
 pub(crate) struct Next {
     pub member: u16,
@@ -64,38 +72,41 @@ impl Join {
         ensures { result ≡ picked_of self (pool_of pool.now).used left right }
     {
         match (left, right) {
+            // never met: merging ends at the last member
             (None, None) => Next {
                 member: 0,
                 left: None,
                 right: None,
             },
             (Some(node), None) => {
-                let (member, left) = self.split(pool, node);
+                let members = self.split(pool, node);
                 Next {
-                    member,
-                    left,
+                    member: members.first,
+                    left: members.rest,
                     right: None,
                 }
             }
             (None, Some(node)) => {
-                let (member, right) = self.split(pool, node);
+                let members = self.split(pool, node);
                 Next {
-                    member,
+                    member: members.first,
                     left: None,
-                    right,
+                    right: members.rest,
                 }
             }
-            (Some(l), Some(r)) => first_of(l, self.split(pool, l), r, self.split(pool, r)),
+            (Some(l), Some(r)) => first_of(self.split(pool, l), self.split(pool, r)),
         }
     }
 
-    /// The first member of a node, and what the others are the members of.
-    fn split(self, pool: &Pool, node: u16) -> (u16, Option<u16>)
+    /// The members of a node, the first apart from the rest.
+    fn split(self, pool: &Pool, node: u16) -> Members
         ensures { result ≡ split_of self (pool_of pool.now).used node }
     {
-        match self.parts(form_at(pool, node)) {
-            Some((member, rest)) => (member, Some(rest)),
-            None => (node, None),
+        let parts = self.parts(form_at(pool, node));
+        Members {
+            all: node,
+            first: parts.map_or(node, |(first, _)| first),
+            rest: parts.map(|(_, rest)| rest),
         }
     }
 
@@ -121,31 +132,24 @@ impl Join {
 }
 
 /// The smaller of two first members, and equal ones together.
-fn first_of(
-    left: u16,
-    of_left: (u16, Option<u16>),
-    right: u16,
-    of_right: (u16, Option<u16>),
-) -> Next
-    ensures { result ≡ first_of left of_left right of_right }
+fn first_of(left: Members, right: Members) -> Next
+    ensures { result ≡ first_of left right }
 {
-    let (x, xs) = of_left;
-    let (y, ys) = of_right;
-    match x.cmp(&y) {
+    match left.first.cmp(&right.first) {
         Ordering::Less => Next {
-            member: x,
-            left: xs,
-            right: Some(right),
+            member: left.first,
+            left: left.rest,
+            right: Some(right.all),
         },
         Ordering::Equal => Next {
-            member: x,
-            left: xs,
-            right: ys,
+            member: left.first,
+            left: left.rest,
+            right: right.rest,
         },
         Ordering::Greater => Next {
-            member: y,
-            left: Some(left),
-            right: ys,
+            member: right.first,
+            left: Some(left.all),
+            right: right.rest,
         },
     }
 }

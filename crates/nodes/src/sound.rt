@@ -4,9 +4,7 @@ ghost use Rattle.nodes.specs.Records.{same_flag};
 ghost use Rattle.nodes.specs.Soundness.{flag_at, sound_by, sound_as, proper, asked, first_unsound, Told};
 
 use crate::node::{FIRST_NODES, Node, NodeKind};
-
-/// The most atoms of a rule: an answer set has a bit for each.
-pub const MOST_ATOMS: u16 = 32;
+use languages::rules::MOST_ATOMS;
 
 /// The first node that is not sound; of the nodes 0 to 3 also one that is missing.
 pub fn first_unsound(nodes: &[Node]) -> Option<usize>
@@ -60,7 +58,7 @@ impl Node {
     fn is_sound_atom(self) -> bool
         ensures { result ≡ (nat_lt self.left 32 && (self.right == 0 && not self.nullable)) }
     {
-        self.left < MOST_ATOMS && self.right == 0 && !self.nullable
+        usize::from(self.left) < MOST_ATOMS && self.right == 0 && !self.nullable
     }
 
     fn is_sound_pair(self, number: usize, flag: bool) -> bool

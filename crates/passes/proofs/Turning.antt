@@ -1,7 +1,7 @@
 -- Going on from a part, turn by turn.
 --   Growing step s n X x h y g   going on from x with the pool h is going on from y with the pool g
 -- Assumes nothing.
-use Rattle.std.proofs.Common.{◌≡◌, ℕ, zero, suc, ◌<◌, ◌≤◌, Bool, true, false, eqb, length, Ok, Err, sym, refl, ap, ◌∙◌, arith}
+use Rattle.std.proofs.Common.{◌≡◌, ℕ, zero, suc, ◌<◌, ◌≤◌, Bool, true, false, eqb, length, Ok, Err, sym, ap, ◌∙◌, arith}
 use Rattle.std.proofs.lemmas.Bool.{eq-eqb, ne_eqb}
 use Rattle.refusals.specs.declared.Refusal.{Refusal}
 use Rattle.grammar.specs.declared.token.Lexeme.{Lexeme}
@@ -28,9 +28,6 @@ pub record Growing (step : Step) (s : Reader) (n : ℕ) (X : Level) (x : Part) (
   pub far : x.next.place ≤ y.next.place
 
 module _ (step : Step) (s : Reader) (n : ℕ) (X : Level) (x : Part) (h : Held) where
-  pub growing_none : Stands s.text.now x.next → Growing step s n X x h x h
-  growing_none stands = record { so_far = λ k m. (k, m, refl); stands = stands; far = omega arith }
-
   module _ (y : Part) (g : Held) (so : Growing step s n X x h y g) where
     on_by : (z : Part) (i : Held) → y.next.place < z.next.place → z.next.place ≤ length s.text.now → ((j : ℕ) → size_on s y.next < suc j → going_on step s n X (suc j) y g ≡ going_on step s n X j z i) → (k j : ℕ) → size_on s y.next < j → going_on step s n X k x h ≡ going_on step s n X j y g → (j : ℕ) × (size_on s z.next < j) × (going_on step s n X k x h ≡ going_on step s n X j z i)
     on_by z i far most step k zero m e = absurd (omega arith)

@@ -4,7 +4,8 @@
 --   Stands text items r  r stands for the text's rule: the nodes in use are sound, the root is one of them, and its
 --                        language is that of the one rule that the grammar gives the text
 --   Given text a items   if a is a reading, it stands for the text's rule in the pool items; if the pool is full, its
---                        nodes, as many as the refusal says, are sound
+--                        size is the refusal's place, and all of it is sound
+--   Named text a es      if a is a reading, or the refusal of a full pool, the entries es speak of the text's atoms, by number
 --   Left a same          if a is a refusal of anything but a full pool, all is the same as before
 --   Wrong text a         if a is the grammar's refusal of a token, or of the end, it is the first such
 --   ReadingMeans text items es o   what the outcome o says, and what it leaves, where items and es were there before
@@ -20,6 +21,7 @@ use Rattle.grammar.specs.Lexing.{lexed}
 use Rattle.nodes.specs.declared.node.Node.{Node}
 use Rattle.nodes.specs.Soundness.{Sound}
 use Rattle.nodes.specs.Meaning.{meaning}
+use Rattle.surveys.specs.Entries.{texts_in}
 use Rattle.surveys.specs.declared.entry.Entry.{Entry}
 use Rattle.reader.specs.declared.source.Reading.{Reading}
 use Rattle.reader.specs.Reading.{Outcome}
@@ -45,7 +47,11 @@ pub record Stands (text : List ℕ) (items : List Node) (r : Reading) : Type 0 w
 
 abbrev pub Given : List ℕ → Result Reading Refusal → List Node → Type 0
 Given text (Ok r) items = Stands text items r
-Given text (Err f) items = f.question ≡ NodeRoom → Sound (take f.place items)
+Given text (Err f) items = f.question ≡ NodeRoom → (f.place ≡ length items) × Sound items
+
+abbrev pub Named : List ℕ → Result Reading Refusal → List Entry → Type 0
+Named text (Ok r) es = (r.atoms ≡ length (atoms (lexed text))) × (texts_in text (take r.atoms es) ≡ atoms (lexed text))
+Named text (Err f) es = f.question ≡ NodeRoom → texts_in text (take (length (atoms (lexed text))) es) ≡ atoms (lexed text)
 
 abbrev pub Left : Result Reading Refusal → Type 0 → Type 0
 Left a same = IfErr a (λ f. (f.question ≡ NodeRoom) ⊎ same)
@@ -57,8 +63,10 @@ Wrong text a = IfErr a (λ f. f.question ≡ GrammarAllows → FirstWrong (numbe
 pub record ReadingMeans (text : List ℕ) (items : List Node) (es : List Entry) (o : Outcome) : Type 0 where
   -- Where the sizes fit, the text is not refused exactly when it writes a rule within the limits.
   pub accepts : Fits text items es → Untold o.0 ↔ ((r : Rule) × Written text r)
-  -- A reading stands for that rule; a full pool is sound.
+  -- A reading stands for that rule; a full pool is sound, all of it, and its size is the place told.
   pub given : Given text o.0 o.1
+  -- The atom entries speak of the text's atoms, each of the one of its number.
+  pub named : Named text o.0 o.2
   -- The token that the grammar refuses is the first that no rule's tokens go on with; the end, if no rule ends there.
   pub wrong : Wrong text o.0
   -- Any refusal but that of a full pool leaves the pool and the atom list as they were.

@@ -3,9 +3,9 @@ ghost use Rattle.std.specs.Prelude.{◌≡◌};
 ghost use Rattle.refusals.specs.Questions.{first_no};
 ghost use Rattle.reader.specs.Reading.{passing, room_asked};
 
+use languages::rules::MOST_ATOMS;
 use nodes::{FIRST_NODES, MOST_NODES};
 use refusals::{Question, Refusal};
-use surveys::MOST_ATOMS;
 
 /// The most bytes of a text.
 const LONGEST_TEXT: usize = 4096;

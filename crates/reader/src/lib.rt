@@ -6,6 +6,7 @@ mod source;
 mod worked;
 mod writing;
 
+pub use languages::rules::MOST_ATOMS;
 pub use source::{Reading, read};
-pub use surveys::{Entry, MOST_ATOMS};
+pub use surveys::Entry;
 pub use worked::worked_texts;

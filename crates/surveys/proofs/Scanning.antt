@@ -39,9 +39,6 @@ abbrev pub Taken : List ℕ → ℕ → Lexed → Meeting → Type 0
 Taken text p ts (true, es) = FoundBy text es ts
 Taken text p ts (false, es) = Last text es p
 
-pub found_none : (text : List ℕ) → Found text [] 0
-found_none text = record { horizon = refl; all = refl; few = omega arith }
-
 pub found_end : (text : List ℕ) (es : List Entry) (p : ℕ) → FoundBy text es (end p) → Last text es (length text)
 unfolding horizon_from entries_from
 found_end text es p f = record { horizon = f.horizon; all = f.all ∙ ap (take 32) (append-nil es) ∙ take_all 32 es f.few }

@@ -4,10 +4,8 @@ ghost use Rattle.grammar.specs.Atoms.{number_of};
 ghost use Rattle.surveys.specs.Entries.{Meeting, listed, meeting, numbered, texts_in};
 
 use crate::entry::Entry;
+use languages::rules::MOST_ATOMS;
 use std::marker::Model;
-
-/// The most atoms of a text.
-pub const MOST_ATOMS: usize = 32;
 
 /// Atoms by number: the places in use are the first `count`, and the others are as they were made. Clauses see the entries
 /// in use, which tell the others too.

@@ -8,8 +8,8 @@ mod looking;
 mod reader;
 mod scan;
 
-pub use atoms::{Atoms, MOST_ATOMS};
+pub use atoms::Atoms;
 pub use entry::Entry;
-pub use looking::{advance, begins, sign_of};
+pub use looking::{advance, begins};
 pub use reader::Reader;
 pub use scan::survey;

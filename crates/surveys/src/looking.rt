@@ -1,9 +1,9 @@
 //! Looking at the tokens of a text.
-ghost use Rattle.std.specs.Prelude.{◌≡◌, ◌≤◌, ◌&&◌, length, option_map, ◌==◌};
-ghost use Rattle.grammar.specs.Atoms.{within};
+ghost use Rattle.std.specs.Prelude.{◌≡◌, ◌≤◌, ◌&&◌, length, ◌==◌};
+ghost use Rattle.grammar.specs.Atoms.{counted, within};
 ghost use Rattle.grammar.specs.Lexing.{lexed_at, lexed_from};
 ghost use Rattle.grammar.specs.Sighting.{sighted, token_of};
-ghost use Rattle.grammar.specs.Tokens.{begins_some, sign, sign_of};
+ghost use Rattle.grammar.specs.Tokens.{begins_some, sign_of};
 ghost use Rattle.surveys.specs.Looking.{LiesAt, after, told};
 
 use crate::reader::Reader;
@@ -18,9 +18,10 @@ pub(crate) fn look<'t>(text: &'t [u8], at: usize) -> Result<Lexeme<'t>, Refusal>
     next(text, at)
 }
 
-/// The same, where a bracket that would be one atom too many is refused.
-#[tactic(auto, using(crate::proofs::Advancing::after_bad, crate::proofs::Advancing::after_refused, crate::proofs::Advancing::after_token))]
+/// The first token of the reader's text from `at` on; a bracket that would be one atom too many is refused.
+#[tactic(auto, using(crate::proofs::Advancing::after_bad, crate::proofs::Advancing::after_refused, crate::proofs::Advancing::after_token, crate::proofs::Advancing::counted_bad, crate::proofs::Advancing::counted_refused, crate::proofs::Advancing::counted_token))]
 pub fn advance<'t>(reader: &Reader<'t>, at: usize) -> Result<Lexeme<'t>, Refusal>
+    ensures whole { sighted result ≡ counted reader.now.horizon (lexed_at reader.now.text.now at) }
     ensures told { told reader.now result ≡ after reader.now at }
     ensures lies { LiesAt reader.now.text.now at result }
 {
@@ -36,25 +37,6 @@ fn is_beyond(reader: &Reader, lexeme: Lexeme) -> bool
     ensures { result ≡ (sign_of (token_of lexeme.entry.token) == 91 && lexeme.entry.place == reader.now.horizon) }
 {
     matches!(lexeme.token, Token::Bracket(_)) && lexeme.place == reader.horizon
-}
-
-/// The byte that a token begins with, if it is not the end.
-pub fn sign_of(token: Token) -> Option<u8>
-    ensures { result ≡ option_map sign (token_of token.entry) }
-{
-    match token {
-        Token::Bar => Some(b'|'),
-        Token::Ampersand => Some(b'&'),
-        Token::Bang => Some(b'!'),
-        Token::Asterisk => Some(b'*'),
-        Token::Opening => Some(b'('),
-        Token::Closing => Some(b')'),
-        Token::Nought => Some(b'0'),
-        Token::One => Some(b'1'),
-        Token::Dot => Some(b'.'),
-        Token::Bracket(_) => Some(b'['),
-        Token::End => None,
-    }
 }
 
 /// Whether a token can begin an operand.

@@ -20,6 +20,6 @@ loop-lexeme-preserved c =
 pub returns : goal.returns
 returns c =
     let found = c.loop-lexeme.invariant in
-    let last = found_all c.args.text.now (listed c.loop-lexeme.atoms) c.loop-lexeme.lexeme-iterator found.1 found.0 c.in-None.ensures.steps in
+    let last = found_all c.args.text.now (listed c.loop-lexeme.atoms) c.loop-lexeme.lexeme-iterator found.1 found.0 c.in-None.ensures.steps.0 in
     let is = c.reader-2.ensures in
     record { text_is = is.text; atoms_are = is.atoms ∙ sym last.all; horizon-is = is.horizon ∙ sym last.horizon }
