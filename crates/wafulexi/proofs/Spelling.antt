@@ -11,5 +11,6 @@ other w s differs =
       | false ↦ λ e. refl
     ] refl
 
-pub no_command : (w : Word) (ws : List Word) → (spelled w ≡ codes "help" → ⊥) → (spelled w ≡ codes "--help" → ⊥) → (spelled w ≡ codes "-h" → ⊥) → (spelled w ≡ codes "inspect" → ⊥) → parsed (w ∷ ws) ≡ Err (unknown w)
-no_command w ws help long short inspect = rw (other w "help" help, other w "--help" long, other w "-h" short, other w "inspect" inspect)
+pub no_command : (w : Word) (ws : List Word) → (spelled w ≡ codes "help" → ⊥) → (spelled w ≡ codes "--help" → ⊥) → (spelled w ≡ codes "-h" → ⊥) → (spelled w ≡ codes "inspect" → ⊥) → (spelled w ≡ codes "nodes" → ⊥) → parsed (w ∷ ws) ≡ Err (unknown w)
+no_command w ws help long short inspect nodes =
+    rw (other w "help" help, other w "--help" long, other w "-h" short, other w "inspect" inspect, other w "nodes" nodes)

@@ -6,20 +6,17 @@
 --   ended ws x       x, if no word is left
 --   unknown w        what is wrong with w, which should be a command
 --   named w          the source that w names: standard input by a lone dash, a file unless w is an option
---   inspecting ws s  to inspect the source s, if no word is left
---   inspect ws       what the words after `inspect` ask for; with none, standard input is inspected
---   parsed ws        the command that ws ask for
 --   alone ws s       the source s, if no word is left
 --   sourced ws       the source that a command's own words ws name; with none, standard input
---   for_nodes s      s, as what was asked for
---   nodes_asked ws   the source of the rule whose nodes ws ask for; nothing where they ask for something else
+--   asking c s       the command c of the source s
+--   parsed ws        the command that ws ask for
 -- Assumes nothing.
-use Rattle.std.specs.Prelude.{ℕ, Bool, cond, ◌||◌, List, [], ◌∷◌, Some, None, Option, Ok, Err, string_bytes, codes, Result, String, ◌==◌, slice_index}
+use Rattle.std.specs.Prelude.{ℕ, Bool, cond, ◌||◌, List, [], ◌∷◌, Ok, Err, string_bytes, codes, Result, String, ◌==◌, slice_index}
 use Prim.Native.String.{String as Text}
 use Rattle.std.specs.Str.{bytes_eq}
 use Rattle.std.specs.declared.alloc.Global.{Global}
 use Rattle.wafulexi.specs.declared.words.Command.{Command}
-use Rattle.wafulexi.specs.declared.words.Command.TheVariants.{Help, Inspect}
+use Rattle.wafulexi.specs.declared.words.Command.TheVariants.{Help, Inspect, Nodes}
 use Rattle.wafulexi.specs.declared.words.Misuse.{Misuse}
 use Rattle.wafulexi.specs.declared.words.Misuse.TheVariants.{NoCommand, UnknownCommand, UnknownOption, OneTooMany}
 use Rattle.wafulexi.specs.declared.words.Source.{Source}
@@ -47,18 +44,6 @@ unknown w = cond (is_option (spelled w)) (UnknownOption w) (UnknownCommand w)
 abbrev pub named : Word → Result Source Misuse
 named w = cond (is w "-") (Ok Input) (cond (is_option (spelled w)) (Err (UnknownOption w)) (Ok (File w)))
 
-abbrev pub inspecting : List Word → Result Source Misuse → Result Command Misuse
-inspecting ws (Ok s) = ended ws (Inspect s)
-inspecting ws (Err m) = Err m
-
-abbrev pub inspect : List Word → Result Command Misuse
-inspect [] = Ok (Inspect Input)
-inspect (w ∷ ws) = inspecting ws (named w)
-
-abbrev pub parsed : List Word → Result Command Misuse
-parsed [] = Err NoCommand
-parsed (w ∷ ws) = cond (is w "help" || (is w "--help" || is w "-h")) (ended ws Help) (cond (is w "inspect") (inspect ws) (Err (unknown w)))
-
 abbrev pub alone : List Word → Result Source Misuse → Result Source Misuse
 alone ws (Ok s) = ended ws s
 alone ws (Err m) = Err m
@@ -67,10 +52,14 @@ abbrev pub sourced : List Word → Result Source Misuse
 sourced [] = Ok Input
 sourced (w ∷ ws) = alone ws (named w)
 
-abbrev pub for_nodes : Result Source Misuse → Result (Option Source) Misuse
-for_nodes (Ok s) = Ok (Some s)
-for_nodes (Err m) = Err m
+abbrev pub asking : (Source → Command) → Result Source Misuse → Result Command Misuse
+asking command (Ok s) = Ok (command s)
+asking command (Err m) = Err m
 
-abbrev pub nodes_asked : List Word → Result (Option Source) Misuse
-nodes_asked [] = Ok None
-nodes_asked (w ∷ ws) = cond (is w "nodes") (for_nodes (sourced ws)) (Ok None)
+abbrev pub parsed : List Word → Result Command Misuse
+parsed [] = Err NoCommand
+parsed (w ∷ ws) =
+    cond (is w "help" || (is w "--help" || is w "-h")) (ended ws Help)
+    (cond (is w "inspect") (asking Inspect (sourced ws))
+    (cond (is w "nodes") (asking Nodes (sourced ws))
+    (Err (unknown w))))

@@ -1,6 +1,6 @@
 //! The commands, each in a module of its own.
 mod inspect;
-pub mod node_list;
+mod node_list;
 
 use crate::failures::Failure;
 use crate::usage::USAGE;
@@ -10,5 +10,6 @@ pub fn run(rt: &HostRuntime, command: Command) -> Result<(), Failure> {
     match command {
         Command::Help => rt.println(USAGE).map_err(Failure::Unwritten),
         Command::Inspect(source) => inspect::inspect(rt, source),
+        Command::Nodes(source) => node_list::nodes(rt, source),
     }
 }

@@ -26,10 +26,7 @@ fn main(rt: HostRuntime) -> ExitCode {
 }
 
 fn run(rt: &HostRuntime) -> Result<(), Failure> {
-    match words::parse_nodes(own_words(rt)?)? {
-        Some(source) => commands::node_list::nodes(rt, source),
-        None => commands::run(rt, words::parse(own_words(rt)?)?),
-    }
+    commands::run(rt, words::parse(own_words(rt)?)?)
 }
 
 /// The words of the command line, without the first, which is the program's own name.

@@ -2,7 +2,7 @@
 ghost use Rattle.std.specs.Prelude.{◌≡◌};
 ghost use Rattle.std.specs.Vec.Iter.{into_iter_items};
 ghost use Rattle.wafulexi.specs.declared.words.Command.TheVariants.{Help};
-ghost use Rattle.wafulexi.specs.Words.{is_option, ended, named, unknown, inspect, parsed, sourced, nodes_asked};
+ghost use Rattle.wafulexi.specs.Words.{is_option, ended, named, unknown, parsed, sourced};
 
 use std::env::Args;
 
@@ -11,6 +11,7 @@ use std::env::Args;
 pub enum Command {
     Help,
     Inspect(Source),
+    Nodes(Source),
 }
 
 /// Where a command reads its bytes.
@@ -55,7 +56,8 @@ pub fn parse(mut words: Args) -> Result<Command, Misuse>
     };
     match name.as_str() {
         "help" | "--help" | "-h" => help(words),
-        "inspect" => inspect(words),
+        "inspect" => Ok(Command::Inspect(source_in(words)?)),
+        "nodes" => Ok(Command::Nodes(source_in(words)?)),
         _ => Err(unknown(name)),
     }
 }
@@ -65,25 +67,6 @@ fn help(words: Args) -> Result<Command, Misuse>
 {
     end(words)?;
     Ok(Command::Help)
-}
-
-fn inspect(words: Args) -> Result<Command, Misuse>
-    ensures { result ≡ inspect (into_iter_items words) }
-{
-    Ok(Command::Inspect(source_in(words)?))
-}
-
-/// The source of the rule whose nodes the words ask for; nothing where they ask for something else.
-pub fn parse_nodes(mut words: Args) -> Result<Option<Source>, Misuse>
-    ensures { result ≡ nodes_asked (into_iter_items words) }
-{
-    let Some(name) = words.next() else {
-        return Ok(None);
-    };
-    match name.as_str() {
-        "nodes" => Ok(Some(source_in(words)?)),
-        _ => Ok(None),
-    }
 }
 
 /// The source that a command's own words name: one word at most, and with none standard input.

@@ -30,7 +30,7 @@ sentences GrammarAllows _ =
 sentences LevelsOpen _ = (codes "too many levels are open here", codes "at most 32 levels")
 sentences AtomCount _ = (codes "the rule has too many atoms", codes "at most 32 atoms")
 sentences NodeRoom _ =
-    (codes "the node is not in the pool, or no node is free", codes "a node of the pool, or room for one more")
+    (codes "the rule needs more nodes than there is room for", codes "a node of the pool, or room for one more")
 sentences EventRange _ =
     (codes "the event's code or station is out of range", codes "a code from 0 to 15 and a station from 0 to 7")
 sentences AtomEntry _ = (
@@ -51,7 +51,7 @@ sentences BuildRoom _ = (
   codes "1 to 4096 bytes, 1 to 1024 rows, and buffers that are long enough",
 )
 sentences RowRoom _ =
-    (codes "the row is not there, or none is left under the limit", codes "a row of the table, or room for one more")
+    (codes "the rule needs more rows than the limit allows", codes "a row of the table, or room for one more")
 sentences FileLength _ = (
   codes "the file is too short, or does not have the length that it says",
   codes "11 bytes or more, and their number in bytes 0 to 3",

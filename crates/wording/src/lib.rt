@@ -40,7 +40,7 @@ fn wrong(question: Question, place: usize) -> &'static str
         Question::GrammarAllows => "the rule cannot go on like this, or end here",
         Question::LevelsOpen => "too many levels are open here",
         Question::AtomCount => "the rule has too many atoms",
-        Question::NodeRoom => "the node is not in the pool, or no node is free",
+        Question::NodeRoom => "the rule needs more nodes than there is room for",
         Question::EventRange => "the event's code or station is out of range",
         Question::AtomEntry => "the atom is not in the list, or its part is not in the text",
         Question::AtomForm => "the atom does not have its form",
@@ -49,7 +49,7 @@ fn wrong(question: Question, place: usize) -> &'static str
         Question::StationOrder => "a station is out of range, or stands in the order twice",
         Question::PoolSound => "the pool, its count, its root or a node is not sound",
         Question::BuildRoom => "the text, the row limit or a buffer has the wrong size",
-        Question::RowRoom => "the row is not there, or none is left under the limit",
+        Question::RowRoom => "the rule needs more rows than the limit allows",
         Question::FileLength => "the file is too short, or does not have the length that it says",
         Question::FileVersion => "the file's version is unknown",
         Question::FileFields => wrong_field(place),
@@ -189,7 +189,7 @@ mod tests {
             rt.alloc(),
             Question::NodeRoom,
             usize::MAX,
-            "refused 8 at 18446744073709551615 (pool): the node is not in the pool, or no node is free; expected a node of the pool, or room for one more",
+            "refused 8 at 18446744073709551615 (pool): the rule needs more nodes than there is room for; expected a node of the pool, or room for one more",
         )
     }
 }

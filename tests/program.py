@@ -1,0 +1,116 @@
+#!/usr/bin/env python3
+"""Runs the program as a technician does, and holds what it prints and its status against the pages and a model. The gate
+runs a program once only, and asks for status 0, so this is run by hand, after `rt run` or the gate has left the program
+as crates/wafulexi/out/wafulexi.
+
+    program.py      run all, and tell what differs:
+                    - every example of README.md and docs/ that begins with `$`,
+                    - words of the command line, good and wrong,
+                    - `nodes` on every text of crates/texts/stdin, against tests/reading.py
+"""
+import re
+import subprocess
+import sys
+import tempfile
+from pathlib import Path
+
+import reading
+
+ROOT = Path(__file__).resolve().parent.parent
+PROGRAM = ROOT / "crates" / "wafulexi" / "out" / "wafulexi"
+PAGES = ["README.md", "docs/RULES.md", "docs/NODES.md", "docs/STEP-FILE.md", "docs/REFUSALS.md"]
+EXAMPLE = ROOT / "crates" / "wafulexi" / "data" / "example.step"
+LISTED = """kind 1 rows 4 classes 4 text 17 length 64
+[61][62]|[61][63]
+0 6 1 2 1 1
+1 4 1 1 1 1
+2 6 1 1 3 3
+3 7 1 1 1 1
+"""
+
+
+def run(words, given=b""):
+    """Status, standard output and standard error."""
+    done = subprocess.run([PROGRAM, *words], input=given, capture_output=True, cwd=ROOT)
+    return done.returncode, done.stdout.decode(), done.stderr.decode()
+
+
+def page_examples():
+    """Each command line of the pages, and the lines under it."""
+    for page in PAGES:
+        text = (ROOT / page).read_text()
+        for command, printed in re.findall(r"^    \$ (.*)\n((?:    (?!\$ ).*\n)*)", text, re.M):
+            yield page, command, re.sub(r"^    ", "", printed, flags=re.M)
+
+
+def check_pages():
+    for page, command, printed in page_examples():
+        command = re.sub(r"(crates/wafulexi/out/)?wafulexi(?= )", str(PROGRAM), command)
+        done = subprocess.run(command, shell=True, stdout=subprocess.PIPE, stderr=subprocess.STDOUT, text=True, cwd=ROOT)
+        yield f"{page}: {command}", done.stdout, printed
+
+
+def check_words():
+    usage = run(["help"])[1]
+    step_file = EXAMPLE.read_bytes()
+    refused = "refused 30 at 0 (file): "
+    with tempfile.TemporaryDirectory() as folder:
+        rule = Path(folder) / "rule"
+        rule.write_bytes(b"[61]*\n")
+        nodes = run(["nodes"], b"[61]*\n")
+        for words, given, status, out, err in [
+            ([], b"", 1, "", "no command is given\n" + usage),
+            (["--help"], b"", 0, usage, ""),
+            (["-h"], b"", 0, usage, ""),
+            (["help", "me"], b"", 1, "", "one word too many: me\n" + usage),
+            (["node"], b"", 1, "", "unknown command: node\n" + usage),
+            (["-n"], b"", 1, "", "unknown option: -n\n" + usage),
+            (["inspect"], step_file, 0, LISTED, ""),
+            (["inspect", "-"], step_file, 0, LISTED, ""),
+            (["inspect", EXAMPLE], b"", 0, LISTED, ""),
+            (["inspect", EXAMPLE, "-"], b"", 1, "", "one word too many: -\n" + usage),
+            (["inspect", "-x"], b"", 1, "", "unknown option: -x\n" + usage),
+            (["inspect"], b"", 1, "", refused),
+            (["inspect", folder], b"", 1, "", f"cannot read {folder}: "),
+            (["nodes", "-"], b"[61]*\n", *nodes),
+            (["nodes", rule], b"", *nodes),
+            (["nodes", rule, rule], b"", 1, "", f"one word too many: {rule}\n" + usage),
+            (["nodes", "--all"], b"", 1, "", "unknown option: --all\n" + usage),
+            (["nodes", folder + "/none"], b"", 1, "", f"cannot read {folder}/none: "),
+        ]:
+            found = run(words, given)
+            cut = len(err) if err.endswith(": ") else None
+            yield f"words {words}", (found[0], found[1], found[2][:cut]), (status, out, err)
+
+
+def check_nodes():
+    for line in (ROOT / "crates" / "texts" / "stdin").read_text().splitlines():
+        text = line.split()[2]
+        text = b"" if text == "-" else bytes.fromhex(text)
+        status, out, err = run(["nodes"], text)
+        yield f"nodes {text!r}", told(status, out, err), "\n".join(reading.shown(text)) + "\n"
+
+
+def told(status, out, err):
+    """What the program printed, where its status is right; a refusal as the model tells it, without its sentences."""
+    if (status, err) == (0, ""):
+        return out
+    if (status, out) != (1, ""):
+        return status, out, err
+    return re.sub(r"^(refused \d+ at \d+) \(.*", r"\1", err)
+
+
+def main():
+    wrong = count = 0
+    for checks in (check_pages, check_words, check_nodes):
+        for name, found, wanted in checks():
+            count += 1
+            if found != wanted:
+                wrong += 1
+                print(f"{name}\n  found  {found!r}\n  wanted {wanted!r}")
+    print(f"{count} runs, {wrong} wrong")
+    return 1 if wrong else 0
+
+
+if __name__ == "__main__":
+    sys.exit(main())
