@@ -382,6 +382,23 @@ def deriving_cases():
         yield deriving(shared + [STALE] * 64, len(shared), node, 1)
 
 
+def order_cases():
+    """What deriving enters on the way, also where the answer needs none of it, and in which order: with room for all of
+    it, for less and for none."""
+    # the worked examples of docs/NODES.md
+    worked = [(ATOM, 0, 0, 0), (ATOM, 1, 0, 0), (SEQUENCE, 4, 5, 0), (ATOM, 2, 0, 0), (SEQUENCE, 4, 7, 0), (OR, 6, 8, 0)]
+    again = [(ATOM, 0, 0, 0), (STAR, 4, 0, 1), (SEQUENCE, 5, 4, 0)]
+    # node 6 is `[61][62]`, and node 7, `[61][62][62]`, enters `[62][62]` when it is derived by an `a`
+    longer = [(ATOM, 0, 0, 0), (ATOM, 1, 0, 0), (SEQUENCE, 4, 5, 0), (SEQUENCE, 6, 5, 0)]
+    ends = ([(STAR, 6, 0, 1), (SEQUENCE, 8, 7, 0)], [(SEQUENCE, 4, 7, 0)], [(AND, 5, 7, 0)], [(AND, 7, 5, 0)])
+    anything = [(SEQUENCE, 4, 3, 0)]
+    ors = (anything + [(OR, 7, 8, 0)], anything + [(OR, 8, 7, 0)])
+    for rule in (worked, again, *(longer + end for end in (*ends, *ors))):
+        items = FIRST + rule
+        for room in range(6):
+            yield deriving(items + [STALE] * room, len(items), len(items) - 1, 1)
+
+
 def chosen(rng, items):
     return items[int(rng.random() * len(items))]
 
@@ -407,7 +424,7 @@ def random_cases():
 
 def main():
     cases = []
-    for group in (size_cases, first_cases, later_cases, flag_cases, other_sound_cases, form_cases, room_cases, finding_cases, odd_cases, deriving_cases, random_cases):
+    for group in (size_cases, first_cases, later_cases, flag_cases, other_sound_cases, form_cases, room_cases, finding_cases, odd_cases, deriving_cases, order_cases, random_cases):
         cases += group()
     cases = list(dict.fromkeys(cases))
     crate = Path(__file__).resolve().parent.parent / "crates" / "pools"

@@ -378,8 +378,8 @@ def token_cases():
     """Which byte begins a token, what a bracket is, what stands between, and that one token is judged before the next."""
     yield from texts(*(bytes([b]) for b in range(256)), *(b"." + bytes([b]) for b in range(256)), room=(8, 32))
     yield from texts("[61", "[61]|", "()", ")x", "|[", "*x", ".x)", "(.x", ".)x", "(]", "[", "[]", "[[]", "[[61]", "[]]")
-    yield from texts(" ", "\n", " \n ", " . ", "\n.\n", ". .", ".\n\n*", "! .", "( . )", ".\t", "\r\n", ". |", ".|\n", "(. ", "!  ")
-    yield from texts("[ 61]", "[6 1][61]", "[\n]", "[|&!*()01.]", b"[\x00\xff]", "[61][61-61]", "[61][61]", "[61] [61]|[61]")
+    yield from texts(" ", "\n", " \n ", " . ", "\n.\n", ". .", ".\n\n*", "! .", "( . )", ".\t", "\r\n", ". |", ".|\n", "(. ", "!  ", "[61]|\n", "   ")
+    yield from texts("[ 61]", "[6 1][61]", "[\n]", "[|&!*()01.]", b"[\x00\xff]", "[61][61-61]", "[6a][6A]", "[61][61]", "[61] [61]|[61]")
     yield from texts("[61]|[62", "[61]([62", "|[62", "[62|", ".]", "[61]]", "x[61", "(x", "!x", "!", "!|", "(", "(.", "(.|", ".|&.")
     yield from texts(b"\x80", b".\xc3\xa9", "[\u00e9]", "2", "a", "[61]+", "[61]?", "{.}", "#", "\0", ".\0")
 
@@ -451,6 +451,7 @@ def entering_cases():
 def merging_cases():
     """Members by rising number, each once: from every order and grouping. What goes before enters them by their numbers."""
     members = ["[61]", "[62]", "[63]", "[64]"]
+    yield from texts("([61]|[62]|[63])|([62]|[64])")
     ahead = "0" + "".join(members) + "|"
     for sign in "|&":
         for order in itertools.permutations(members):
