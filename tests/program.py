@@ -101,6 +101,8 @@ def told(status, out, err):
 
 
 def main():
+    if not PROGRAM.exists():
+        sys.exit(f"{PROGRAM} is not there: (cd crates/wafulexi && rt run -- help) makes it")
     wrong = count = 0
     for checks in (check_pages, check_words, check_nodes):
         for name, found, wanted in checks():
