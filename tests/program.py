@@ -6,6 +6,7 @@ as crates/wafulexi/out/wafulexi.
     program.py      run all, and tell what differs:
                     - every example of README.md and docs/ that begins with `$`,
                     - words of the command line, good and wrong,
+                    - standard output that cannot be written,
                     - `nodes` on every text of crates/texts/stdin, against tests/reading.py
 """
 import re
@@ -18,7 +19,7 @@ import reading
 
 ROOT = Path(__file__).resolve().parent.parent
 PROGRAM = ROOT / "crates" / "wafulexi" / "out" / "wafulexi"
-PAGES = ["README.md", "docs/RULES.md", "docs/NODES.md", "docs/STEP-FILE.md", "docs/REFUSALS.md"]
+PAGES = ["README.md", *sorted(page.relative_to(ROOT) for page in (ROOT / "docs").glob("*.md"))]
 EXAMPLE = ROOT / "crates" / "wafulexi" / "data" / "example.step"
 LISTED = """kind 1 rows 4 classes 4 text 17 length 64
 [61][62]|[61][63]
@@ -26,6 +27,15 @@ LISTED = """kind 1 rows 4 classes 4 text 17 length 64
 1 4 1 1 1 1
 2 6 1 1 3 3
 3 7 1 1 1 1
+"""
+USAGE = """usage: wafulexi COMMAND [WORD..]
+
+  wafulexi inspect [FILE]   check a step file; print its header, its text and its rows
+  wafulexi nodes [FILE]     read a rule text; print its nodes and its atoms
+  wafulexi help             print this
+
+Without FILE, or where FILE is -, standard input is read.
+The status is 0, or 1 where standard error says why.
 """
 
 
@@ -47,40 +57,50 @@ def check_pages():
     for page, command, printed in page_examples():
         command = re.sub(r"(crates/wafulexi/out/)?wafulexi(?= )", str(PROGRAM), command)
         done = subprocess.run(command, shell=True, stdout=subprocess.PIPE, stderr=subprocess.STDOUT, text=True, cwd=ROOT)
-        yield f"{page}: {command}", done.stdout, printed
+        status = 1 if printed.startswith("refused ") else 0
+        yield f"{page}: {command}", (done.returncode, done.stdout), (status, printed)
 
 
 def check_words():
-    usage = run(["help"])[1]
     step_file = EXAMPLE.read_bytes()
     refused = "refused 30 at 0 (file): "
     with tempfile.TemporaryDirectory() as folder:
         rule = Path(folder) / "rule"
         rule.write_bytes(b"[61]*\n")
-        nodes = run(["nodes"], b"[61]*\n")
+        nodes = "\n".join(reading.shown(b"[61]*\n")) + "\n"
         for words, given, status, out, err in [
-            ([], b"", 1, "", "no command is given\n" + usage),
-            (["--help"], b"", 0, usage, ""),
-            (["-h"], b"", 0, usage, ""),
-            (["help", "me"], b"", 1, "", "one word too many: me\n" + usage),
-            (["node"], b"", 1, "", "unknown command: node\n" + usage),
-            (["-n"], b"", 1, "", "unknown option: -n\n" + usage),
+            ([], b"", 1, "", "no command is given\n" + USAGE),
+            (["help"], b"", 0, USAGE, ""),
+            (["--help"], b"", 0, USAGE, ""),
+            (["-h"], b"", 0, USAGE, ""),
+            (["help", "me"], b"", 1, "", "one word too many: me\n" + USAGE),
+            (["node"], b"", 1, "", "unknown command: node\n" + USAGE),
+            (["-n"], b"", 1, "", "unknown option: -n\n" + USAGE),
             (["inspect"], step_file, 0, LISTED, ""),
             (["inspect", "-"], step_file, 0, LISTED, ""),
             (["inspect", EXAMPLE], b"", 0, LISTED, ""),
-            (["inspect", EXAMPLE, "-"], b"", 1, "", "one word too many: -\n" + usage),
-            (["inspect", "-x"], b"", 1, "", "unknown option: -x\n" + usage),
+            (["inspect", EXAMPLE, "-"], b"", 1, "", "one word too many: -\n" + USAGE),
+            (["inspect", "-x"], b"", 1, "", "unknown option: -x\n" + USAGE),
             (["inspect"], b"", 1, "", refused),
             (["inspect", folder], b"", 1, "", f"cannot read {folder}: "),
-            (["nodes", "-"], b"[61]*\n", *nodes),
-            (["nodes", rule], b"", *nodes),
-            (["nodes", rule, rule], b"", 1, "", f"one word too many: {rule}\n" + usage),
-            (["nodes", "--all"], b"", 1, "", "unknown option: --all\n" + usage),
+            (["nodes", "-"], b"[61]*\n", 0, nodes, ""),
+            (["nodes", rule], b"", 0, nodes, ""),
+            (["nodes", rule, rule], b"", 1, "", f"one word too many: {rule}\n" + USAGE),
+            (["nodes", "--all"], b"", 1, "", "unknown option: --all\n" + USAGE),
             (["nodes", folder + "/none"], b"", 1, "", f"cannot read {folder}/none: "),
         ]:
             found = run(words, given)
             cut = len(err) if err.endswith(": ") else None
             yield f"words {words}", (found[0], found[1], found[2][:cut]), (status, out, err)
+
+
+def check_full():
+    """Standard output that cannot be written."""
+    for words in (["help"], ["inspect", EXAMPLE], ["nodes"]):
+        with open("/dev/full", "wb") as full:
+            done = subprocess.run([PROGRAM, *words], input=b".", stdout=full, stderr=subprocess.PIPE, cwd=ROOT)
+        err = "cannot write standard output: "
+        yield f"full {words}", (done.returncode, done.stderr.decode()[:len(err)]), (1, err)
 
 
 def check_nodes():
@@ -104,7 +124,7 @@ def main():
     if not PROGRAM.exists():
         sys.exit(f"{PROGRAM} is not there: (cd crates/wafulexi && rt run -- help) makes it")
     wrong = count = 0
-    for checks in (check_pages, check_words, check_nodes):
+    for checks in (check_pages, check_words, check_full, check_nodes):
         for name, found, wanted in checks():
             count += 1
             if found != wanted:

@@ -1,5 +1,5 @@
-//! How many atoms a rule has, and what is proved of rules and their languages. No function here does anything: each is
-//! there for its contract.
+//! How many atoms a rule may have, and what is proved of rules and their languages. No function here does anything:
+//! each is there for its contract.
 ghost use Rattle.std.specs.Prelude.{ℕ, ◌↔◌, List, [], ◌∷◌, Decides};
 ghost use Rattle.languages.specs.Rules.{Rule, Lang, nullable, derivative, Same};
 
