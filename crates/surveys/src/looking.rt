@@ -19,10 +19,19 @@ pub(crate) fn look<'t>(text: &'t [u8], at: usize) -> Result<Lexeme<'t>, Refusal>
 }
 
 /// The first token of the reader's text from `at` on; a bracket that would be one atom too many is refused.
-#[tactic(auto, using(crate::proofs::Advancing::after_bad, crate::proofs::Advancing::after_refused, crate::proofs::Advancing::after_token, crate::proofs::Advancing::counted_bad, crate::proofs::Advancing::counted_refused, crate::proofs::Advancing::counted_token))]
+#[tactic(auto, using(crate::proofs::Advancing::told_after))]
 pub fn advance<'t>(reader: &Reader<'t>, at: usize) -> Result<Lexeme<'t>, Refusal>
     ensures whole { sighted result ≡ counted reader.now.horizon (lexed_at reader.now.text.now at) }
     ensures told { told reader.now result ≡ after reader.now at }
+    ensures lies { LiesAt reader.now.text.now at result }
+{
+    look_within(reader, at)
+}
+
+/// The steps of `advance`; that one says what they come to.
+#[tactic(auto, using(crate::proofs::Advancing::counted_bad, crate::proofs::Advancing::counted_refused, crate::proofs::Advancing::counted_token))]
+fn look_within<'t>(reader: &Reader<'t>, at: usize) -> Result<Lexeme<'t>, Refusal>
+    ensures whole { sighted result ≡ counted reader.now.horizon (lexed_at reader.now.text.now at) }
     ensures lies { LiesAt reader.now.text.now at result }
 {
     let lexeme = look(reader.text, at)?;
