@@ -9,9 +9,9 @@
 --                                 bytes have a place in that layout, and its numbers are small
 -- Assumes nothing.
 use Rattle.std.specs.Prelude.{◌≡◌, ℕ, ◌+◌, ◌*◌, ◌≤◌, List, length, take, drop, ◌==◌, bit_and, slice_index}
+use Rattle.alphabets.specs.declared.kind.Kind.{Kind}
+use Rattle.alphabets.specs.Kinds.{kind_number}
 use Rattle.languages.specs.Tables.{Table}
-use Rattle.stepfiles.specs.declared.kind.Kind.{Kind}
-use Rattle.stepfiles.specs.Kinds.{kind_number}
 
 abbrev pub byte_at : List ℕ → ℕ → ℕ
 byte_at b p = slice_index b p

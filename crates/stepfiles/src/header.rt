@@ -4,8 +4,8 @@ ghost use Rattle.std.specs.Result.{result_err};
 ghost use Rattle.refusals.specs.Questions.{first_no};
 ghost use Rattle.stepfiles.specs.Opening.{header};
 
-use crate::kind::Kind;
 use crate::table::{HEADER, MOST_ROWS, Table};
+use alphabets::Kind;
 use refusals::{Question, Refusal};
 
 const LONGEST_TEXT: usize = 4096;

@@ -3,15 +3,14 @@
 
 mod file;
 mod header;
-mod kind;
 mod marks;
 mod opening;
 mod table;
 mod targets;
 mod view;
 
+pub use alphabets::{Kind, UnknownKind};
 pub use file::StepFile;
-pub use kind::{Kind, UnknownKind};
 pub use languages::Mark;
 pub use opening::open;
 pub use table::MOST_ROWS;

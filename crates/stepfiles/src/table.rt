@@ -2,7 +2,7 @@
 ghost use Rattle.std.specs.Prelude.{◌≡◌, ◌+◌, ◌*◌, ◌<◌, length};
 ghost use Rattle.stepfiles.specs.Layout.{byte_at, word_at, row_at, target_at, Laid};
 
-use crate::kind::Kind;
+use alphabets::Kind;
 
 /// The bytes before the text.
 pub(crate) const HEADER: usize = 11;

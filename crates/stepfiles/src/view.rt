@@ -1,13 +1,13 @@
 //! What an opened step file tells.
 ghost use Rattle.std.specs.Prelude.{◌≡◌};
-ghost use Rattle.stepfiles.specs.Kinds.{kind_number};
+ghost use Rattle.alphabets.specs.Kinds.{kind_number};
 ghost use Rattle.stepfiles.specs.Layout.{kind_in, rows_in, classes_in, text_in};
 ghost use Rattle.stepfiles.specs.Proper.{MarkThere, TargetThere};
 ghost use Rattle.stepfiles.specs.Views.{viewed, mark_in, successor, built_in};
 
 use crate::file::StepFile;
-use crate::kind::Kind;
 use crate::table::{HEADER, Table};
+use alphabets::Kind;
 use languages::Mark;
 
 /// The file of the rule `0`, which no list meets.

@@ -1,12 +1,12 @@
 -- The kinds of alphabets.
---   kind_number k   the number of a kind, as a file has it
+--   kind_number k   the number of a kind, as a step file has it
 --   NamesKind n r   r is the kind whose number is n, or the error that no kind has the number n
 --   unknown_kind e  what that error says
 -- Assumes nothing.
 use Rattle.std.specs.Prelude.{◌≡◌, ℕ, ◌<◌, ◌⊎◌, List, ◌++◌, codes, decimal, Result, MatchResult}
-use Rattle.stepfiles.specs.declared.kind.Kind.{Kind}
-use Rattle.stepfiles.specs.declared.kind.Kind.TheVariants.{Bytes, Events}
-use Rattle.stepfiles.specs.declared.kind.UnknownKind.{UnknownKind}
+use Rattle.alphabets.specs.declared.kind.Kind.{Kind}
+use Rattle.alphabets.specs.declared.kind.Kind.TheVariants.{Bytes, Events}
+use Rattle.alphabets.specs.declared.kind.UnknownKind.{UnknownKind}
 
 abbrev pub kind_number : Kind → ℕ
 kind_number Bytes = 1

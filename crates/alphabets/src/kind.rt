@@ -1,11 +1,11 @@
-//! The kinds of alphabets, and the bytes that stand for them.
+//! The kinds of alphabets, and the numbers that stand for them.
 ghost use Rattle.std.specs.Prelude.{◌≡◌, Some};
-ghost use Rattle.stepfiles.specs.Kinds.{kind_number, NamesKind, unknown_kind};
+ghost use Rattle.alphabets.specs.Kinds.{kind_number, NamesKind, unknown_kind};
 
 use std::error::Error;
 use std::fmt;
 
-/// The kind of the alphabet that a file was built over.
+/// The kind of an alphabet.
 #[derive(Clone, Copy, PartialEq, Eq, Debug)]
 pub enum Kind {
     Bytes = 1,
@@ -14,7 +14,7 @@ pub enum Kind {
 }
 
 impl Kind {
-    /// The number that stands for the kind in a file.
+    /// The number that stands for the kind in a step file.
     pub fn number(self) -> u8
         ensures { result ≡ kind_number self }
     {
