@@ -1,0 +1,9 @@
+pub mod Bytes
+pub mod Counting
+pub mod Filling
+pub mod FirstMet
+pub mod Laws
+pub mod Meeting
+pub mod Rising
+pub mod Room
+pub mod Steps

@@ -1,0 +1,5 @@
+pub mod Bytes
+pub mod FirstMet
+pub mod Found
+pub mod Meeting
+pub mod Rising
