@@ -1,0 +1,2 @@
+pub mod NoAtoms
+pub mod Tabling

@@ -1,0 +1,3 @@
+pub mod Classing
+pub mod Making
+pub mod Ranges
