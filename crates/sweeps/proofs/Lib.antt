@@ -1,0 +1,4 @@
+pub mod Letters
+pub mod Jumping
+pub mod Steady
+pub mod Walking

@@ -1,0 +1,4 @@
+pub mod Letters
+pub mod Classes
+pub mod Changes
+pub mod Walking
