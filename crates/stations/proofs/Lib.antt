@@ -1,0 +1,4 @@
+pub mod Pigeonhole
+pub mod Undoing
+pub mod Filling
+pub mod Meaning

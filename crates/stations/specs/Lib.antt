@@ -1,0 +1,4 @@
+pub mod Orders
+pub mod Filling
+pub mod Asking
+pub mod Layering
