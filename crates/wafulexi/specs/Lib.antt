@@ -1,6 +1,9 @@
+pub mod ClassLines
+pub mod Commands
 pub mod Escapes
 pub mod Excerpts
 pub mod Lines
 pub mod NodeLines
+pub mod Options
 pub mod Sayings
 pub mod Words

@@ -1,4 +1,5 @@
 //! The commands, each in a module of its own.
+mod class_list;
 mod inspect;
 mod node_list;
 
@@ -11,5 +12,6 @@ pub fn run(rt: &HostRuntime, command: Command) -> Result<(), Failure> {
         Command::Help => rt.println(USAGE).map_err(Failure::Unwritten),
         Command::Inspect(source) => inspect::inspect(rt, source),
         Command::Nodes(source) => node_list::nodes(rt, source),
+        Command::Classes(cutting) => class_list::classes(rt, cutting),
     }
 }

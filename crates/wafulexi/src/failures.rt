@@ -64,6 +64,11 @@ impl fmt::Display for Misuse {
             Misuse::UnknownCommand(word) => write!(f, "unknown command: {word}"),
             Misuse::UnknownOption(word) => write!(f, "unknown option: {word}"),
             Misuse::OneTooMany(word) => write!(f, "one word too many: {word}"),
+            Misuse::Twice(word) => write!(f, "given twice: {word}"),
+            Misuse::Unfinished(word) => write!(f, "a word has to follow: {word}"),
+            Misuse::NotEightDigits(word) => write!(f, "not eight digits: {word}"),
+            Misuse::FoldOfEvents => f.write_str("--fold is for bytes, not for events"),
+            Misuse::StationsOfBytes => f.write_str("--stations is for events, not for bytes"),
         }
     }
 }

@@ -6,6 +6,9 @@ mod escapes;
 mod excerpts;
 mod failures;
 mod input;
+mod options;
+mod rules;
+mod samples;
 mod usage;
 mod words;
 

@@ -2,8 +2,10 @@
 ghost use Rattle.std.specs.Prelude.{◌≡◌};
 ghost use Rattle.std.specs.Vec.Iter.{into_iter_items};
 ghost use Rattle.wafulexi.specs.declared.words.Command.TheVariants.{Help};
-ghost use Rattle.wafulexi.specs.Words.{is_option, ended, named, unknown, parsed, sourced};
+ghost use Rattle.wafulexi.specs.Commands.{parsed};
+ghost use Rattle.wafulexi.specs.Words.{is_option, ended, named, unknown, sourced};
 
+use crate::options::{Cutting, cutting_in};
 use std::env::Args;
 
 /// What the program is asked to do.
@@ -12,6 +14,7 @@ pub enum Command {
     Help,
     Inspect(Source),
     Nodes(Source),
+    Classes(Cutting),
 }
 
 /// Where a command reads its bytes.
@@ -38,13 +41,19 @@ impl TryFrom<String> for Source {
     }
 }
 
-/// Why words ask for no command. Each but the first holds the word at fault.
+/// Why words ask for no command, with the word at fault if it is one.
 #[derive(Drop)]
 pub enum Misuse {
     NoCommand,
     UnknownCommand(String),
     UnknownOption(String),
     OneTooMany(String),
+    Twice(String),
+    /// An option that is the last word, where its own has to follow.
+    Unfinished(String),
+    NotEightDigits(String),
+    FoldOfEvents,
+    StationsOfBytes,
 }
 
 /// The command that the words after the program's own name ask for.
@@ -58,6 +67,7 @@ pub fn parse(mut words: Args) -> Result<Command, Misuse>
         "help" | "--help" | "-h" => help(words),
         "inspect" => Ok(Command::Inspect(source_in(words)?)),
         "nodes" => Ok(Command::Nodes(source_in(words)?)),
+        "classes" => Ok(Command::Classes(cutting_in(words)?)),
         _ => Err(unknown(name)),
     }
 }

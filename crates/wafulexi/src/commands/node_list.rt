@@ -3,59 +3,31 @@ ghost use Rattle.std.specs.Prelude.{◌≡◌, take, drop, IfOk, string_bytes};
 ghost use Rattle.wafulexi.specs.NodeLines.{summed, node_line, atom_line};
 
 use crate::escapes::escaped;
-use crate::excerpts::excerpt;
 use crate::failures::Failure;
-use crate::input;
+use crate::rules::Rule;
 use crate::words::Source;
-use nodes::{MOST_NODES, Node};
-use reader::{Entry, MOST_ATOMS, Reading, read};
-use refusals::{Question, Refusal};
+use crate::{input, rules};
+use nodes::Node;
+use reader::{Entry, Reading};
 use std::alloc::{AllocError, Global};
 use std::io;
 use std::io::{BufWriter, Write};
 
 pub fn nodes(rt: &HostRuntime, source: Source) -> Result<(), Failure> {
-    let heap = rt.alloc();
     let bytes = input::read(rt, source)?;
-    let text = bytes.as_slice();
-    let mut pool = vec![in heap; Node::default(); MOST_NODES]?;
-    let mut atoms = [Entry::default(); MOST_ATOMS];
-    match read(text, pool.as_mut_slice(), &mut atoms) {
-        Ok(reading) => {
-            print(rt, text, reading, pool.as_slice(), &atoms).map_err(Failure::Unwritten)
-        }
-        Err(refusal) => Err(misread(heap, text, refusal)?),
-    }
+    let rule = rules::read(rt.alloc(), bytes.as_slice())?;
+    print(rt, bytes.as_slice(), &rule).map_err(Failure::Unwritten)
 }
 
-/// A refusal, with the place shown where it stands in the text.
-fn misread(heap: Global, text: &[u8], refusal: Refusal) -> Result<Failure, AllocError> {
-    match refusal.question {
-        Question::TokenStart
-        | Question::BracketClosed
-        | Question::GrammarAllows
-        | Question::LevelsOpen
-        | Question::AtomCount => {
-            Ok(Failure::Misread(refusal, excerpt(heap, text, refusal.place)?))
-        }
-        _ => Ok(Failure::Refused(refusal)),
-    }
-}
-
-fn print(
-    rt: &HostRuntime,
-    text: &[u8],
-    reading: Reading,
-    pool: &[Node],
-    atoms: &[Entry],
-) -> io::Result<()> {
+fn print(rt: &HostRuntime, text: &[u8], rule: &Rule) -> io::Result<()> {
     let heap = rt.alloc();
     let mut out = BufWriter::new(heap, rt.stdout())?;
-    out.writeln(heading(heap, reading)?)?;
-    for (number, node) in pool.iter().take(reading.nodes).enumerate() {
+    let Reading { nodes, atoms, .. } = rule.reading;
+    out.writeln(heading(heap, rule.reading)?)?;
+    for (number, node) in rule.nodes.iter().take(nodes).enumerate() {
         out.writeln(node_line(heap, number, *node)?)?;
     }
-    for (number, atom) in atoms.iter().take(reading.atoms).enumerate() {
+    for (number, atom) in rule.atoms.iter().take(atoms).enumerate() {
         out.writeln(atom_line(heap, text, number, *atom)?)?;
     }
     out.flush()
