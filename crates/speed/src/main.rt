@@ -1,7 +1,9 @@
-//! Times the opening of a step file, or the reading and deriving of a rule. Words: [derive] FILE COUNT ROUNDS, with
-//! `derive` for a rule. Standard output has what is the same in each run, and standard error the time in the best round.
+//! Times the opening of a step file, the reading and deriving of a rule, or the cutting of its atoms. Words:
+//! [derive|bytes|events] FILE COUNT ROUNDS, with one of these for a rule. Standard output has what is the same in each run,
+//! and standard error the time in the best round.
 #![tactic(auto)]
 
+mod cuts;
 mod rules;
 
 use anyhow::Context;
@@ -23,8 +25,14 @@ pub struct Task {
 }
 
 impl Task {
+    /// The task that the words FILE COUNT ROUNDS set.
+    fn set(mut words: Args) -> anyhow::Result<Task> {
+        let file = words.next().context("no FILE")?;
+        Task::on(file, words)
+    }
+
     /// The task on a file that the words COUNT ROUNDS set.
-    pub fn on(file: String, mut words: Args) -> anyhow::Result<Task> {
+    fn on(file: String, mut words: Args) -> anyhow::Result<Task> {
         let count = words.next().context("no COUNT")?.parse::<u32>()?;
         let rounds = words.next().context("no ROUNDS")?.parse::<u32>()?;
         Ok(Task {
@@ -43,11 +51,11 @@ fn run(rt: &HostRuntime) -> anyhow::Result<()> {
     let mut words = env::args(rt)?;
     let _ = words.next();
     let first = words.next().context("no FILE")?;
-    if first.as_str() == "derive" {
-        let file = words.next().context("no FILE")?;
-        rules::run(rt, &Task::on(file, words)?)
-    } else {
-        open_file(rt, &Task::on(first, words)?)
+    match first.as_str() {
+        "derive" => rules::run(rt, &Task::set(words)?),
+        "bytes" => cuts::run_bytes(rt, &Task::set(words)?),
+        "events" => cuts::run_events(rt, &Task::set(words)?),
+        _ => open_file(rt, &Task::on(first, words)?),
     }
 }
 
