@@ -1,7 +1,7 @@
 //! The record that a pool holds for each node.
 ghost use Rattle.std.specs.Prelude.{◌≡◌, Some};
 ghost use Rattle.nodes.specs.Records.{kind_number, kind_word, KindNumbered, unknown_kind_text, node_text};
-ghost use Rattle.nodes.specs.Sameness.{derived_exact};
+ghost use Rattle.nodes.specs.Sameness.{derived_eq, derived_exact};
 
 use numbering::Same;
 use std::error::Error;
@@ -113,6 +113,8 @@ impl fmt::Display for Node {
 }
 
 impl Same for Node {
+    ghost equal = { derived_eq };
+
     ghost exact = { derived_exact };
 
     /// What `==` says, kind and left part first: most nodes differ there, and the derived test looks at more at once.

@@ -18,8 +18,8 @@ pub struct Book<'a, T> {
 impl<'a, T: Same> Book<'a, T> {
     /// The number of a thing, which gets the next one if it is met for the first time and a place is left.
     pub fn number(&mut self, thing: T) -> Option<usize>
-        ensures whole { ◌≡◌ {A = Out T} (result, pages self.new.items.now self.new.count) (numbered T.eq (pages self.old.items.now self.old.count) thing) }
-        ensures means { Means T.eq thing (pages self.old.items.now self.old.count) result (pages self.new.items.now self.new.count) }
+        ensures whole { ◌≡◌ {A = Out T} (result, pages self.new.items.now self.new.count) (numbered T.Same.equal (pages self.old.items.now self.old.count) thing) }
+        ensures means { Means T.Same.equal thing (pages self.old.items.now self.old.count) result (pages self.new.items.now self.new.count) }
         ensures lent { self.new.items.ghost_name ≡ self.old.items.ghost_name }
     {
         self.enter(thing)
@@ -27,7 +27,7 @@ impl<'a, T: Same> Book<'a, T> {
 
     /// The steps of `number`; that one says what they come to.
     fn enter(&mut self, thing: T) -> Option<usize>
-        ensures whole { ◌≡◌ {A = Out T} (result, pages self.new.items.now self.new.count) (numbered T.eq (pages self.old.items.now self.old.count) thing) }
+        ensures whole { ◌≡◌ {A = Out T} (result, pages self.new.items.now self.new.count) (numbered T.Same.equal (pages self.old.items.now self.old.count) thing) }
         ensures lent { self.new.items.ghost_name ≡ self.old.items.ghost_name }
     {
         match find(self.in_use(), thing) {
@@ -67,7 +67,7 @@ impl<'a, T: Same> Book<'a, T> {
 
 /// The place of the first of the items that is the thing.
 pub fn find<T: Same>(items: &[T], thing: T) -> Option<usize>
-    ensures { result ≡ first_equal T.eq items.now thing }
+    ensures { result ≡ first_equal T.Same.equal items.now thing }
 {
     items.iter().position(|item| item.same(thing))
 }
