@@ -30,8 +30,7 @@ pub(crate) fn leaf(reader: &Reader, token: Token) -> Option<Form>
 fn atom(reader: &Reader, inside: &[u8]) -> u16
     ensures { result ≡ names_of reader.now inside.now }
 {
-    let atoms = &reader.atoms;
-    atoms.number(reader.text, inside).unwrap_or(atoms.used()) as u16
+    reader.atoms.number(reader.text, inside) as u16
 }
 
 impl<'r, 't> Walk<'r, 't> {

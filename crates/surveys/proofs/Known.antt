@@ -1,6 +1,6 @@
 -- Looking an atom up among those that are known.
 -- Assumes nothing.
-use Rattle.std.proofs.Common.{◌≡◌, ℕ, suc, ◌+◌, ◌<◌, Bool, true, false, cond, not, ltb, ◌||◌, List, [], ◌∷◌, ◌++◌, length, take, set, unwrap_or, sym, refl, ap, ◌∙◌, arith, length-take}
+use Rattle.std.proofs.Common.{◌≡◌, ℕ, suc, ◌+◌, Bool, true, false, cond, not, ltb, ◌||◌, List, [], ◌∷◌, ◌++◌, length, take, set, unwrap_or, sym, refl, ap, ◌∙◌, arith, length-take}
 use Rattle.std.specs.List.{position_or_len}
 use Rattle.std.specs.Option.{is_some}
 use Rattle.std.specs.Str.{bytes_eq}
@@ -51,16 +51,13 @@ module _ (text : List ℕ) (p : ℕ) (s : List ℕ) where
   pub met_known : (es : List Entry) → is_some (numbered text es s) ≡ true → ◌≡◌ {A = Meeting} (true, es) (meeting text es p s)
   met_known es is = sym (cond-true _ _ _ (among_numbered text s es ∙ is))
 
-  module _ (xs : List Entry) (n : ℕ) (es : List Entry) (are : take n xs ≡ es) (long : length xs ≡ 32) (is : is_some (numbered text es s) ≡ false) where
-    pub met_full : n ≡ 32 → ◌≡◌ {A = Meeting} (false, es) (meeting text es p s)
-    met_full full =
-        let l = ap length are in
-        let k = length-take n xs in
-        sym (cond-false _ _ _ (among_numbered text s es ∙ is) ∙ cond-false _ _ _ (le-ltb (length es) 32 (omega arith)))
+  module _ (xs : List Entry) (n u : ℕ) (used : u ≡ length (take n xs)) (long : length xs ≡ 32) (is : is_some (numbered text (take n xs) s) ≡ false) where
+    pub met_full : u ≡ 32 → ◌≡◌ {A = Meeting} (false, take n xs) (meeting text (take n xs) p s)
+    met_full full = sym (cond-false _ _ _ (among_numbered text s (take n xs) ∙ is) ∙ cond-false _ _ _ (le-ltb (length (take n xs)) 32 (omega arith)))
 
-    pub met_new : n < 32 → ◌≡◌ {A = Meeting} (true, take (n + 1) (set xs n (entry_at p s))) (meeting text es p s)
+    pub met_new : (u ≡ 32 → ⊥) → ◌≡◌ {A = Meeting} (true, take (u + 1) (set xs u (entry_at p s))) (meeting text (take n xs) p s)
     met_new room =
-        let l = ap length are in
         let k = length-take n xs in
-        ap {B = Meeting} (λ more. (true, more)) (take_more_set xs n (entry_at p s) (omega arith) ∙ ap (λ known. known ++ (entry_at p s ∷ [])) are)
-        ∙ sym (cond-false _ _ _ (among_numbered text s es ∙ is) ∙ cond-true _ _ _ (lt-ltb (length es) 32 (omega arith)))
+        let same : n ≡ u = omega arith in
+        ap {B = Meeting} (λ more. (true, more)) (take_more_set xs u (entry_at p s) (omega arith) ∙ ap (λ v. take v xs ++ (entry_at p s ∷ [])) (sym same))
+        ∙ sym (cond-false _ _ _ (among_numbered text s (take n xs) ∙ is) ∙ cond-true _ _ _ (lt-ltb (length (take n xs)) 32 (omega arith)))

@@ -53,7 +53,7 @@ abbrev pub entries : Lexed → List Entry
 entries ts = entries_from [] ts
 
 abbrev pub listed : Atoms → List Entry
-listed a = a
+listed a = take a.count a.entries
 
 abbrev pub Meeting : Type 0
 Meeting = Bool × List Entry

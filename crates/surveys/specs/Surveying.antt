@@ -6,8 +6,10 @@ use Rattle.grammar.specs.Atoms.{horizon_in}
 use Rattle.grammar.specs.Lexing.{lexed}
 use Rattle.surveys.specs.declared.reader.Reader.{Reader}
 use Rattle.surveys.specs.Entries.{entries, listed}
+use Rattle.surveys.specs.Padding.{IsPadded}
 
 pub record Surveyed (text : List ℕ) (s : Reader) : Type 0 where
   pub text_is : s.text.now ≡ text
   pub atoms_are : listed s.atoms ≡ take 32 (entries (lexed text))
   pub horizon-is : s.horizon ≡ horizon_in text
+  pub padded : IsPadded s.atoms.count s.atoms.entries

@@ -5,6 +5,7 @@ mod atoms;
 mod entry;
 mod lexemes;
 mod looking;
+mod meeting;
 mod reader;
 mod scan;
 

@@ -3,7 +3,7 @@ use crate::atoms::Atoms;
 
 /// A text with its atoms, and where the first bracket that would be one atom too many stands (the text's length if there
 /// is none).
-#[derive(Clone, Drop)]
+#[derive(Clone, Copy)]
 pub struct Reader<'t> {
     pub text: &'t [u8],
     pub atoms: Atoms,

@@ -3,6 +3,7 @@ ghost use Rattle.std.specs.Prelude.{◌≡◌};
 ghost use Rattle.grammar.specs.Sighting.{token_of};
 ghost use Rattle.surveys.specs.Entries.{Meeting, listed, taking};
 ghost use Rattle.surveys.specs.Looking.{Stands};
+ghost use Rattle.surveys.specs.Padding.{IsPadded};
 ghost use Rattle.surveys.specs.Surveying.{Surveyed};
 
 use crate::atoms::Atoms;
@@ -27,7 +28,8 @@ pub fn survey<'t>(text: &'t [u8]) -> Reader<'t>
 /// the text too.
 fn take(atoms: &mut Atoms, text: &[u8], lexeme: Lexeme) -> bool
     requires { Stands text.now lexeme }
-    ensures { ◌≡◌ {A = Meeting} (result, listed atoms.new) (taking text.now (listed atoms.old) lexeme.entry.place (token_of lexeme.entry.token)) }
+    ensures taken { ◌≡◌ {A = Meeting} (result, listed atoms.new) (taking text.now (listed atoms.old) lexeme.entry.place (token_of lexeme.entry.token)) }
+    ensures padded { IsPadded atoms.old.count atoms.old.entries → IsPadded atoms.new.count atoms.new.entries }
 {
     match lexeme.token {
         Token::Bracket(inside) => atoms.meet(text, lexeme.place, inside),
@@ -39,7 +41,7 @@ fn take(atoms: &mut Atoms, text: &[u8], lexeme: Lexeme) -> bool
 /// What a text is read with.
 fn reader<'t>(text: &'t [u8], atoms: Atoms, horizon: usize) -> Reader<'t>
     ensures text { result.text.now ≡ text.now }
-    ensures atoms { listed result.atoms ≡ listed atoms }
+    ensures atoms { result.atoms ≡ atoms }
     ensures horizon { result.horizon ≡ horizon }
 {
     Reader {
