@@ -54,7 +54,7 @@ smaller_still n m (Form.And l r) h w = (omega (arith, h, w.0), omega (arith, h, 
 smaller_still n m (Form.Star l) h w = omega (arith, h, w)
 smaller_still n m (Form.Not l) h w = omega (arith, h, w)
 
-none≢some : {m : ℕ} → None ≡ Some m → ⊥
+none≢some : {X : Type 0} {x : X} → None ≡ Some x → ⊥
 none≢some e = let z : ◌≡◌ {A = ℕ} 0 1 = cc in omega arith
 
 pub step : (s n : ℕ) (h : Held) {f : Form} {o : Out} → f ≡ form_at h.used n →
@@ -79,8 +79,7 @@ module _ (rec : ℕ → Held → Out) (r q : ℕ) (h : Held) where
   goes_on m false e done = absurd (none≢some (sym e))
 
 -- An or or an and.
-pub joins : (s n : ℕ) (h : Held) (l r : ℕ) {f : Form} {o x : Out} → f ≡ form_at h.used n → (f ≡ Form.Or l r) ⊎ (f ≡ Form.And l r) →
-    ((k : ℕ) → l < k → o ≡ derived k s l h) →
-    ((k : ℕ) → r < k → x ≡ bind o (λ d g. bind (derived k s r g) (λ e i. entered (rejoined f d e) i))) → (k : ℕ) → n < k → x ≡ derived k s n h
-joins s n h l r is (inl e) first next = step s n h (sym e ∙ is) (λ m w. on _ (first m w.0) (rw e at (next m w.1)))
-joins s n h l r is (inr e) first next = step s n h (sym e ∙ is) (λ m w. on _ (first m w.0) (rw e at (next m w.1)))
+pub joins : (s n : ℕ) (h : Held) (l r : ℕ) {f : Form} {x : Out} → f ≡ form_at h.used n → (f ≡ Form.Or l r) ⊎ (f ≡ Form.And l r) →
+    ((k : ℕ) → l < k → r < k → x ≡ bind (derived k s l h) (λ d g. bind (derived k s r g) (λ e i. entered (rejoined f d e) i))) → (k : ℕ) → n < k → x ≡ derived k s n h
+joins s n h l r is (inl e) both = step s n h (sym e ∙ is) (λ m w. rw e at (both m w.0 w.1))
+joins s n h l r is (inr e) both = step s n h (sym e ∙ is) (λ m w. rw e at (both m w.0 w.1))
