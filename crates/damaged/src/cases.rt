@@ -57,7 +57,7 @@ impl Case {
         match name {
             "room" => self.room = value.parse::<usize>()?,
             "size" => self.bytes.resize(value.parse::<usize>()?, 0)?,
-            _ => write_hex(heap, &mut self.bytes, name.parse::<usize>()?, value)?,
+            _ => write_hex(self.bytes.as_mut_slice(), name.parse::<usize>()?, value)?,
         }
         Ok(())
     }
@@ -71,16 +71,17 @@ impl Case {
     }
 }
 
-/// Writes bytes, given as pairs of hexadecimal digits, from a place on. A last digit without another gives none.
-fn write_hex(heap: Global, bytes: &mut Vec<u8>, place: usize, digits: &str) -> anyhow::Result<()> {
+/// Writes bytes, given as pairs of hexadecimal digits, from a place on, as far as there are places. A last digit without
+/// another gives none.
+fn write_hex(bytes: &mut [u8], place: usize, digits: &str) -> anyhow::Result<()> {
     let digits = digits.as_bytes();
     ensure!(
         digits.iter().all(u8::is_ascii_hexdigit),
         "no hexadecimal digit"
     );
-    let given = hex::decode(heap, &digits[..digits.len() / 2 * 2])?;
-    for (old, new) in bytes.iter_mut().skip(place).zip(given) {
-        *old = new;
+    if let Some(room) = bytes.get_mut(place..) {
+        let size = room.len().min(digits.len() / 2);
+        hex::decode_to_slice(&digits[..2 * size], &mut room[..size])?;
     }
     Ok(())
 }

@@ -1,5 +1,6 @@
 //! Bytes as text that prints.
-ghost use Rattle.std.specs.Prelude.{◌≡◌, ◌++◌, IfOk, string_bytes, OnOk};
+ghost use Rattle.std.specs.Prelude.{◌≡◌, ◌<◌, ◌++◌, IfOk, string_bytes, OnOk};
+ghost use Rattle.std.specs.Char.{digit_char};
 ghost use Rattle.wafulexi.specs.Escapes.{escape, escaped};
 ghost use Rattle.wording.specs.Wording.{prints};
 
@@ -23,7 +24,9 @@ fn push_byte(text: &mut String, byte: u8) -> Result<(), AllocError>
     if prints(byte) {
         text.push(char::from(byte))?;
     } else {
-        write!(text, "\\x{byte:02x}")?;
+        text.push_str("\\x")?;
+        text.push(hex_digit(byte / 16))?;
+        text.push(hex_digit(byte % 16))?;
     }
     Ok(())
 }
@@ -32,4 +35,12 @@ fn prints(byte: u8) -> bool
     ensures { result ≡ prints byte }
 {
     (b' '..=b'~').contains(&byte)
+}
+
+/// A digit by its value. Laying out a number takes several times as long, and a text may have nothing else.
+fn hex_digit(value: u8) -> char
+    requires { value < 16 }
+    ensures { result ≡ digit_char value }
+{
+    char::from_digit(u32::from(value), 16).unwrap()
 }
